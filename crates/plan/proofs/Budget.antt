@@ -1,0 +1,61 @@
+-- The search with a budget has one answer and one count, and there is one.
+-- Assumes nothing.
+use mathlib.Core.Path.{_≡_, refl, ap}
+use mathlib.Core.Logic.{_⊎_, inl, inr}
+use mathlib.Core.List.{List}
+use Prim.Native.Nat.{ℕ, zero, suc, _+_, _-_, _≤_, _<_}
+use native.Mathlib.Omega.{arith}
+use lib.IntN.{ℤ}
+use Rattle.plan.specs.Meaning.{PlanFile, on, off, add, trueIn, Full}
+use Rattle.plan.specs.Ranged.{Ranged}
+use Rattle.plan.specs.Closing.{Clashes}
+use Rattle.plan.specs.Search.{Assigned, Closes, Lowest, Outcome, nothing, found, Tree, clashed, full, first-found, first-nothing, Answer, decided, undecided, Searched, within, beyond}
+use Rattle.plan.proofs.Add.{ltb?}
+use Rattle.plan.proofs.Search.{one-search, off-shape, on-shape}
+use Rattle.plan.proofs.Compute.{search}
+use Rattle.plan.proofs.Exists.{searching-is}
+
+module _ (φ : PlanFile) where
+  pub searched-unique : {a : List ℤ} {n b b′ : ℕ} {o o′ : Answer} → Searched φ a n o b → Searched φ a n o′ b′ → (o ≡ o′) × (b ≡ b′)
+  searched-unique (within t h) (within u k) = let q = one-search φ t u in (ap decided (q .0), q .1)
+  searched-unique (within t h) (beyond u k) = absurd (omega (arith, one-search φ t u .1))
+  searched-unique (beyond t h) (within u k) = absurd (omega (arith, one-search φ t u .1))
+  searched-unique (beyond t h) (beyond u k) = (refl, refl)
+
+  pub searched-is : Ranged φ → (a : List ℤ) → Assigned (φ .variables) a → (n : ℕ) → (o : Answer) × (b : ℕ) × Searched φ a n o b
+  searched-is ok a s n = go (ltb? n (search (suc (φ .variables)) φ a .count))
+    where
+      go : (n < search (suc (φ .variables)) φ a .count) ⊎ (search (suc (φ .variables)) φ a .count ≤ n) → (o : Answer) × (b : ℕ) × Searched φ a n o b
+      go (inl h) = (undecided, n, beyond (searching-is φ ok a s) h)
+      go (inr h) = (decided (search (suc (φ .variables)) φ a .outcome), search (suc (φ .variables)) φ a .count, within (searching-is φ ok a s) h)
+
+-- the steps of a search that keeps what is left of its budget: what the branching code proves, one law for each way out
+module _ (φ : PlanFile) where
+  pub at-clash : (a : List ℤ) (n : ℕ) → Clashes φ (trueIn a) → Searched φ a n (decided nothing) zero
+  at-clash a n f = within (clashed f) (omega arith)
+
+  pub at-plan : (a c : List ℤ) (n : ℕ) → Closes φ a c → Full (φ .variables) c → Searched φ a n (decided (found c)) zero
+  at-plan a c n k f = within (full k f) (omega arith)
+
+module _ (φ : PlanFile) (ok : Ranged φ) (a c : List ℤ) (i : ℕ) (k : Closes φ a c) (l : Lowest c i) where
+  -- whatever the off side is, the whole has a tree, with a larger count
+  grown : (o : Outcome) {b : ℕ} → Tree φ (add c (off (suc i))) o b → (r : Outcome) × (m : ℕ) × Tree φ a r m × (b < m)
+  grown nothing t = let u = searching-is φ ok (add c (on (suc i))) (on-shape φ c i (k .shape) l) in (_, _, first-nothing k l t u, omega arith)
+  grown (found p) t = (_, _, first-found k l t, omega arith)
+
+  pub no-budget : Searched φ a zero undecided zero
+  no-budget = let q = grown _ (searching-is φ ok (add c (off (suc i))) (off-shape φ c i (k .shape) l)) in beyond (q .2) (omega (arith, q .3))
+
+  pub off-finds : {n b : ℕ} {p : List ℤ} → Searched φ (add c (off (suc i))) n (decided (found p)) b → Searched φ a (suc n) (decided (found p)) (suc b)
+  off-finds (within t h) = within (first-found k l t) (omega arith)
+
+  pub off-ends : {n b : ℕ} → Searched φ (add c (off (suc i))) n undecided b → Searched φ a (suc n) undecided (suc n)
+  off-ends (beyond {o = o} t h) = let q = grown o t in beyond (q .2) (omega (arith, q .3))
+
+  pub on-decides : {n b b′ : ℕ} {o : Outcome} → Searched φ (add c (off (suc i))) n (decided nothing) b → Searched φ (add c (on (suc i))) (n - b) (decided o) b′
+      → Searched φ a (suc n) (decided o) (suc (b + b′))
+  on-decides (within t h) (within u g) = within (first-nothing k l t u) (omega arith)
+
+  pub on-ends : {n b b′ : ℕ} → Searched φ (add c (off (suc i))) n (decided nothing) b → Searched φ (add c (on (suc i))) (n - b) undecided b′
+      → Searched φ a (suc n) undecided (suc n)
+  on-ends (within t h) (beyond u g) = beyond (first-nothing k l t u) (omega arith)

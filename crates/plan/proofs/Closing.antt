@@ -1,0 +1,182 @@
+-- What closing means for plans: it is one set, a plan keeps it, and a full closing is a plan.
+-- Assumes nothing.
+use mathlib.Core.Path.{_≡_, refl, sym, subst, _∙_, ap}
+use mathlib.Core.Logic.{_⊎_, inl, inr, _↔_, _≢_}
+use mathlib.Core.Bool.{Bool, true, false, not, _||_}
+use mathlib.Core.List.{List, [], _∷_, List·Memᴰ}
+use Prim.Native.Nat.{ℕ, zero, suc, _+_, _≤_, _<_}
+use native.Mathlib.Omega.{arith}
+use lib.ListN.{length, getD}
+use lib.IntN.{ℤ, pos, negsuc, negℤ, natAbs, ℤ-discrete, negℤ-negℤ}
+use lib.Dec.{T, T-not, not-T}
+use Rattle.plan.specs.Meaning.{Edge, Atom, PlanFile, IsTrue, on, off, value, isOn, isOff, Literals, _⊆_, trueIn, add, under, over, Full, HasTrue, IsPlan}
+use Rattle.plan.specs.Ranged.{Ranged}
+use Rattle.plan.specs.Closing.{HoldsIn, FailsIn, Gives, unit, holds, fails, Obeys, Clash, both, all-false, Closing, Closed, Clashes}
+use Rattle.plan.proofs.Bools.{T?, T-same, any-or-none, or-cases, or-left, or-right}
+use Rattle.plan.proofs.Walks.{true-mono}
+use Rattle.plan.proofs.Levels.{isTrue?, true-iff}
+
+-- what a set says of an atom, a larger one says too
+pub holdsIn-mono : (φ : PlanFile) (S R : Literals) → S ⊆ R → (A : Atom) → HoldsIn φ S A → HoldsIn φ R A
+holdsIn-mono φ S R h A x = true-mono (φ .edges) (under S) (under R) A (λ e i t. h (on (e .variable)) t) x
+
+pub failsIn-mono : (φ : PlanFile) (S R : Literals) → S ⊆ R → (A : Atom) → FailsIn φ S A → FailsIn φ R A
+failsIn-mono φ S R h A n x = n (true-mono (φ .edges) (over R) (over S) A (λ e i t. less e t) x)
+  where
+    less : (e : Edge) → T (not (R (off (e .variable)))) → T (not (S (off (e .variable))))
+    less e t = not-T (S (off (e .variable))) (λ u. T-not (R (off (e .variable))) t (h (off (e .variable)) u))
+
+-- what a set gives, a larger one gives too
+pub gives-mono : (φ : PlanFile) (S R : Literals) → S ⊆ R → (l : ℤ) → Gives φ S l → Gives φ R l
+gives-mono φ S R h l (unit C m z i others) = unit C m z i (λ x k n. h (negℤ x) (others x k n))
+gives-mono φ S R h l (holds A m x) = holds A m (holdsIn-mono φ S R h A x)
+gives-mono φ S R h l (fails A m n) = fails A m (failsIn-mono φ S R h A n)
+
+-- sets
+pub clash-mono : (φ : PlanFile) (S R : Literals) → S ⊆ R → Clash φ S → Clash φ R
+clash-mono φ S R h (both v p q) = both v (h _ p) (h _ q)
+clash-mono φ S R h (all-false C m f) = all-false C m (λ l k. h _ (f l k))
+
+module _ (φ : PlanFile) where
+  pub closing-unique : (G S R : Literals) → Closing φ G S → Closing φ G R → (l : ℤ) → S l ≡ R l
+  closing-unique G S R c d l = T-same (S l) (R l) (c .least R (d .given) (d .obeys) l) (d .least S (c .given) (c .obeys) l)
+
+  -- closing has a clash exactly if the closing set, where there is one, has
+  pub closing-clash : (G S : Literals) → Closing φ G S → Clash φ S ↔ Clashes φ G
+  closing-clash G S c = ((λ x R g o. clash-mono φ S R (c .least R g o) x), (λ f. f S (c .given) (c .obeys)))
+
+  pub not-both : (G S : Literals) → Closed φ G S → Clashes φ G → ⊥
+  not-both G S c f = c .free (f S (c .closing .given) (c .closing .obeys))
+
+  pub closing-mono : (G H S R : Literals) → G ⊆ H → Closing φ G S → Closing φ H R → S ⊆ R
+  closing-mono G H S R h c d = c .least R (λ l t. d .given l (h l t)) (d .obeys)
+
+  pub closing-again : (G S : Literals) → Closing φ G S → Closing φ S S
+  closing-again G S c = record { given = λ l t. t; obeys = c .obeys; least = λ R h o. h }
+
+  pub clashes-mono : (G H : Literals) → G ⊆ H → Clashes φ G → Clashes φ H
+  clashes-mono G H h f R g o = f R (λ l t. g l (h l t)) o
+
+  -- a set between the given and its closing has the same closing: so the closed set may be given in place of what it came from
+  pub closing-between : (G H S : Literals) → G ⊆ H → H ⊆ S → Closing φ G S → Closing φ H S
+  closing-between G H S h k c = record { given = k; obeys = c .obeys; least = λ R g o. c .least R (λ l t. g l (h l t)) o }
+
+-- closing A, adding B and closing again is closing A with B
+abbrev pub _∪_ : Literals → Literals → Literals
+_∪_ A B = λ l. A l || B l
+
+module _ (φ : PlanFile) (A B S : Literals) (c : Closing φ A S) where
+  sub-join : _∪_ A B ⊆ _∪_ S B
+  sub-join l t = go (or-cases (A l) (B l) t)
+    where
+      go : T (A l) ⊎ T (B l) → T (S l || B l)
+      go (inl h) = or-left (S l) (B l) (c .given l h)
+      go (inr h) = or-right (S l) (B l) h
+
+  join-sub : (R : Literals) → _∪_ A B ⊆ R → Obeys φ R → _∪_ S B ⊆ R
+  join-sub R h o l t = go (or-cases (S l) (B l) t)
+    where
+      go : T (S l) ⊎ T (B l) → T (R l)
+      go (inl k) = c .least R (λ m u. h m (or-left (A m) (B m) u)) o l k
+      go (inr k) = h l (or-right (A l) (B l) k)
+
+  pub closing-join : (R : Literals) → Closing φ (_∪_ A B) R ↔ Closing φ (_∪_ S B) R
+  closing-join R = (
+    (λ d. record { given = join-sub R (d .given) (d .obeys); obeys = d .obeys; least = λ Q h o. d .least Q (λ l t. h l (sub-join l t)) o }),
+    (λ d. record { given = λ l t. d .given l (sub-join l t); obeys = d .obeys; least = λ Q h o. d .least Q (join-sub Q h o) o }),
+  )
+
+  pub clashes-join : Clashes φ (_∪_ A B) ↔ Clashes φ (_∪_ S B)
+  clashes-join = ((λ f R h o. f R (λ l t. h l (sub-join l t)) o), (λ f R h o. f R (join-sub R h o) o))
+
+-- an assignment's set never has both signs, and a full one's has one of them
+on-off : (z : ℤ) → T (isOn z) → T (isOff z) → ⊥
+on-off (pos n) p q = q
+on-off (negsuc n) p q = p
+
+pub never-both : (a : List ℤ) (l : ℤ) → T (trueIn a l) → T (trueIn a (negℤ l)) → ⊥
+unfolding trueIn value add
+never-both a (pos zero) p q = p
+never-both a (pos (suc i)) p q = on-off (getD a i (pos 0)) p q
+never-both a (negsuc i) p q = on-off (getD a i (pos 0)) q p
+
+pub one-of : (n : ℕ) (a : List ℤ) → Full n a → (l : ℤ) → zero < natAbs l → natAbs l ≤ n → T (trueIn a l) ⊎ T (trueIn a (negℤ l))
+unfolding trueIn value add
+one-of n a f (pos zero) p q = absurd (omega arith)
+one-of n a f (pos (suc i)) p q = go (f .each i q)
+  where
+    go : (getD a i (pos 0) ≡ pos 1) ⊎ (getD a i (pos 0) ≡ negsuc 0) → T (trueIn a (pos (suc i))) ⊎ T (trueIn a (negsuc i))
+    go (inl e) = inl (rw e tt)
+    go (inr e) = inr (rw e tt)
+one-of n a f (negsuc i) p q = go (f .each i q)
+  where
+    go : (getD a i (pos 0) ≡ pos 1) ⊎ (getD a i (pos 0) ≡ negsuc 0) → T (trueIn a (negsuc i)) ⊎ T (trueIn a (pos (suc i)))
+    go (inl e) = inr (rw e tt)
+    go (inr e) = inl (rw e tt)
+
+-- the over graph of an assignment has its on edges, and no more where it is full
+pub on-over : (a : List ℤ) (v : ℕ) → T (trueIn a (on v)) → T (not (trueIn a (off v)))
+on-over a v t = not-T (trueIn a (off v)) (λ u. never-both a (on v) t u)
+
+over-on : (n : ℕ) (a : List ℤ) → Full n a → (v : ℕ) → zero < v → v ≤ n → T (not (trueIn a (off v))) → T (trueIn a (on v))
+over-on n a f v p q t = go (one-of n a f (on v) p q)
+  where
+    go : T (trueIn a (on v)) ⊎ T (trueIn a (off v)) → T (trueIn a (on v))
+    go (inl h) = h
+    go (inr h) = absurd (T-not (trueIn a (off v)) t h)
+
+module _ (φ : PlanFile) (ok : Ranged φ) (a : List ℤ) where
+  pub plan-free : IsPlan φ a → Clash φ (trueIn a) → ⊥
+  plan-free p (both v x y) = never-both a (on v) x y
+  plan-free p (all-false C m f) = let q = p .clause C m in never-both a (q .0) (q .2) (f (q .0) (q .1))
+
+  pub plan-obeys : IsPlan φ a → Obeys φ (trueIn a)
+  plan-obeys p l (unit C m z i others) = let q = p .clause C m in go (q .0) (q .1) (q .2) (ℤ-discrete (q .0) l)
+    where
+      go : (x : ℤ) → List·Memᴰ x C → T (trueIn a x) → Dec (x ≡ l) → T (trueIn a l)
+      go x k t (yes e) = subst (λ z. T (trueIn a z)) e t
+      go x k t (no n) = absurd (never-both a x t (others x k n))
+  plan-obeys p l (holds A m h) = p .atom A m .1 h
+  plan-obeys p l (fails A m n) = go (one-of (φ .variables) a (p .full) (on (A .variable)) (ok .atom A m .low) (ok .atom A m .high))
+    where
+      go : T (trueIn a (on (A .variable))) ⊎ T (trueIn a (off (A .variable))) → T (trueIn a (off (A .variable)))
+      go (inl t) = absurd (n (true-mono (φ .edges) (under (trueIn a)) (over (trueIn a)) A (λ e i u. on-over a (e .variable) u) (p .atom A m .0 t)))
+      go (inr t) = t
+
+  pub full-plan : Full (φ .variables) a → Obeys φ (trueIn a) → (Clash φ (trueIn a) → ⊥) → IsPlan φ a
+  full-plan f o free = record { full = f; clause = some-true; atom = λ A m. (right A m, λ h. o (on (A .variable)) (holds A m h)) }
+    where
+      some-true : (C : List ℤ) → List·Memᴰ C (φ .clauses) → (l : ℤ) × List·Memᴰ l C × T (trueIn a l)
+      some-true C m = go (any-or-none (trueIn a) C)
+        where
+          false-one : ((x : ℤ) → List·Memᴰ x C → T (trueIn a x) → ⊥) → (l : ℤ) → List·Memᴰ l C → T (trueIn a l) ⊎ T (trueIn a (negℤ l)) → T (trueIn a (negℤ l))
+          false-one n l k (inl t) = absurd (n l k t)
+          false-one n l k (inr t) = t
+
+          go : ((x : ℤ) × List·Memᴰ x C × T (trueIn a x)) ⊎ ((x : ℤ) → List·Memᴰ x C → T (trueIn a x) → ⊥) → (l : ℤ) × List·Memᴰ l C × T (trueIn a l)
+          go (inl q) = q
+          go (inr n) = absurd (free (all-false C m (λ l k. false-one n l k (one-of (φ .variables) a f l (ok .literal C m l k .low) (ok .literal C m l k .high)))))
+
+      right : (A : Atom) → List·Memᴰ A (φ .atoms) → T (trueIn a (on (A .variable))) → IsTrue (φ .edges) (under (trueIn a)) A
+      right A m t = go (T? (isTrue? (φ .nodes) (φ .edges) (under (trueIn a)) A))
+        where
+          same : T (isTrue? (φ .nodes) (φ .edges) (under (trueIn a)) A) ↔ IsTrue (φ .edges) (under (trueIn a)) A
+          same = true-iff (φ .nodes) (φ .edges) (under (trueIn a)) A (λ e i. ok .edge e i .to-in) (ok .atom A m .from-in)
+
+          ov : IsTrue (φ .edges) (over (trueIn a)) A → IsTrue (φ .edges) (under (trueIn a)) A
+          ov h = true-mono (φ .edges) (over (trueIn a)) (under (trueIn a)) A (λ e i u. over-on (φ .variables) a f (e .variable) (ok .edge e i .low) (ok .edge e i .high) u) h
+
+          go : T (isTrue? (φ .nodes) (φ .edges) (under (trueIn a)) A) ⊎ (T (isTrue? (φ .nodes) (φ .edges) (under (trueIn a)) A) → ⊥)
+              → IsTrue (φ .edges) (under (trueIn a)) A
+          go (inl h) = same .0 h
+          go (inr n) = absurd (never-both a (on (A .variable)) t (o (off (A .variable)) (fails A m (λ h. n (same .1 (ov h))))))
+
+  -- a plan that contains the given literals contains their closing; and if closing them clashes, none does
+  pub plan-above : IsPlan φ a → (G S : Literals) → Closing φ G S → G ⊆ trueIn a → S ⊆ trueIn a
+  plan-above p G S c h = c .least (trueIn a) h (plan-obeys p)
+
+  pub no-plan : IsPlan φ a → (G : Literals) → Clashes φ G → G ⊆ trueIn a → ⊥
+  no-plan p G f h = plan-free p (f (trueIn a) h (plan-obeys p))
+
+  pub closed-plan : (G : Literals) → Full (φ .variables) a → Closed φ G (trueIn a) → IsPlan φ a
+  closed-plan G f c = full-plan f (c .closing .obeys) (c .free)

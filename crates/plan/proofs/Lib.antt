@@ -1,0 +1,15 @@
+pub mod Bools
+pub mod Walks
+pub mod Levels
+pub mod Closing
+pub mod Add
+pub mod Search
+pub mod Compute
+pub mod Exists
+pub mod Judging
+pub mod Budget
+pub mod Reason
+pub mod Explain
+pub mod Tables
+pub mod Values
+pub mod Signs

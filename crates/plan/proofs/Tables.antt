@@ -1,0 +1,75 @@
+-- Reading the flat tables by place.
+-- Assumes nothing.
+use mathlib.Core.Path.{_≡_, refl, sym, subst, _∙_, ap}
+use mathlib.Core.Logic.{_⊎_, inl, inr, _≢_}
+use mathlib.Core.List.{List, [], _∷_, _++_, List·Memᴰ, List·Memᴰ·head, List·Memᴰ·tail, List·Memᴰ·cases-cons, List·Memᴰ·not-nil}
+use Prim.Native.Nat.{ℕ, zero, suc, _+_, _*_, _≤_, _<_}
+use native.Mathlib.Omega.{arith}
+use lib.ListN.{length, getD}
+use lib.IntN.{ℤ, pos, negsuc}
+use Rattle.plan.specs.Meaning.{Edge, Atom}
+use Rattle.plan.specs.Tables.{edgesOf, atomsOf, inFront, clausesOf}
+
+pub edges-length : (l : List ℕ) (n : ℕ) → length l ≡ n * 3 → length (edgesOf l) ≡ n
+unfolding edgesOf
+edges-length [] n h = omega arith
+edges-length (f ∷ []) n h = absurd (omega arith)
+edges-length (f ∷ t ∷ []) n h = absurd (omega arith)
+edges-length (f ∷ t ∷ v ∷ r) zero h = absurd (omega arith)
+edges-length (f ∷ t ∷ v ∷ r) (suc n) h = ap suc (edges-length r n (omega arith))
+
+-- edge k stands at place 3k
+pub edges-at : (l : List ℕ) (k : ℕ) (d : Edge) → k * 3 + 2 < length l
+    → getD (edgesOf l) k d ≡ record { from = getD l (k * 3) 0; to = getD l (k * 3 + 1) 0; variable = getD l (k * 3 + 2) 0 }
+unfolding edgesOf
+edges-at [] k d h = absurd (omega arith)
+edges-at (f ∷ []) k d h = absurd (omega arith)
+edges-at (f ∷ t ∷ []) k d h = absurd (omega arith)
+edges-at (f ∷ t ∷ v ∷ r) zero d h = refl
+edges-at (f ∷ t ∷ v ∷ r) (suc k) d h =
+    edges-at r k d (omega arith)
+    ∙ (λ i. record { from = on (k * 3) (suc k * 3) (omega arith) i; to = on (k * 3 + 1) (suc k * 3 + 1) (omega arith) i; variable = on (k * 3 + 2) (suc k * 3 + 2) (omega arith) i })
+  where
+    on : (j m : ℕ) → m ≡ suc (suc (suc j)) → getD r j 0 ≡ getD (f ∷ t ∷ v ∷ r) m 0
+    on j m e = ap (λ z. getD (f ∷ t ∷ v ∷ r) z 0) (sym e)
+
+pub atoms-length : (l : List ℕ) (n : ℕ) → length l ≡ n * 5 → length (atomsOf l) ≡ n
+unfolding atomsOf
+atoms-length [] n h = omega arith
+atoms-length (k ∷ []) n h = absurd (omega arith)
+atoms-length (k ∷ f ∷ []) n h = absurd (omega arith)
+atoms-length (k ∷ f ∷ t ∷ []) n h = absurd (omega arith)
+atoms-length (k ∷ f ∷ t ∷ d ∷ []) n h = absurd (omega arith)
+atoms-length (k ∷ f ∷ t ∷ d ∷ v ∷ r) zero h = absurd (omega arith)
+atoms-length (k ∷ f ∷ t ∷ d ∷ v ∷ r) (suc n) h = ap suc (atoms-length r n (omega arith))
+
+-- atom k stands at place 5k
+pub atoms-at : (l : List ℕ) (k : ℕ) (z : Atom) → k * 5 + 4 < length l
+    → getD (atomsOf l) k z ≡ record { kind = getD l (k * 5) 0; from = getD l (k * 5 + 1) 0; to = getD l (k * 5 + 2) 0; bound = getD l (k * 5 + 3) 0; variable = getD l (k * 5 + 4) 0 }
+unfolding atomsOf
+atoms-at [] k z h = absurd (omega arith)
+atoms-at (q ∷ []) k z h = absurd (omega arith)
+atoms-at (q ∷ f ∷ []) k z h = absurd (omega arith)
+atoms-at (q ∷ f ∷ t ∷ []) k z h = absurd (omega arith)
+atoms-at (q ∷ f ∷ t ∷ d ∷ []) k z h = absurd (omega arith)
+atoms-at (q ∷ f ∷ t ∷ d ∷ v ∷ r) zero z h = refl
+atoms-at (q ∷ f ∷ t ∷ d ∷ v ∷ r) (suc k) z h =
+    atoms-at r k z (omega arith)
+    ∙ (λ i. record {
+      kind = on (k * 5) (suc k * 5) (omega arith) i;
+      from = on (k * 5 + 1) (suc k * 5 + 1) (omega arith) i;
+      to = on (k * 5 + 2) (suc k * 5 + 2) (omega arith) i;
+      bound = on (k * 5 + 3) (suc k * 5 + 3) (omega arith) i;
+      variable = on (k * 5 + 4) (suc k * 5 + 4) (omega arith) i;
+    })
+  where
+    on : (j m : ℕ) → m ≡ suc (suc (suc (suc (suc j)))) → getD r j 0 ≡ getD (q ∷ f ∷ t ∷ d ∷ v ∷ r) m 0
+    on j m e = ap (λ x. getD (q ∷ f ∷ t ∷ d ∷ v ∷ r) x 0) (sym e)
+
+-- a clause, and what stands behind its 0
+pub clause-at : (C : List ℤ) (r : List ℤ) → ((l : ℤ) → List·Memᴰ l C → l ≢ pos 0) → clausesOf (C ++ (pos 0 ∷ r)) ≡ C ∷ clausesOf r
+unfolding clausesOf
+clause-at [] r h = refl
+clause-at (pos zero ∷ C) r h = absurd (h (pos 0) (List·Memᴰ·head refl) refl)
+clause-at (pos (suc n) ∷ C) r h = ap (inFront (pos (suc n))) (clause-at C r (λ l m. h l (List·Memᴰ·tail m)))
+clause-at (negsuc n ∷ C) r h = ap (inFront (negsuc n)) (clause-at C r (λ l m. h l (List·Memᴰ·tail m)))

@@ -1,0 +1,9 @@
+pub mod Meaning
+pub mod Ranged
+pub mod Closing
+pub mod Search
+pub mod Judging
+pub mod Reason
+pub mod Written
+pub mod Tables
+pub mod Refusals

@@ -1,0 +1,70 @@
+-- What holds of every plan file that is accepted. Document 01, "Plan file": "Ranges" and what follows it.
+-- Assumes nothing.
+use mathlib.Core.Path.{_≡_}
+use mathlib.Core.Logic.{_⊎_}
+use mathlib.Core.List.{List, [], _∷_, List·Memᴰ}
+use Prim.Native.Nat.{ℕ, _+_, _≤_, _<_}
+use lib.IntN.{ℤ, natAbs}
+use lib.ListN.{length}
+use Rattle.plan.specs.Meaning.{Edge, Atom, PlanFile}
+
+-- The limits; in the code each is a constant of the thing it limits.
+abbrev pub maxBytes : ℕ
+maxBytes = 16384
+
+abbrev pub maxNodes : ℕ
+maxNodes = 64
+
+abbrev pub maxVariables : ℕ
+maxVariables = 512
+
+abbrev pub maxEdges : ℕ
+maxEdges = 256
+
+abbrev pub maxAtoms : ℕ
+maxAtoms = 64
+
+abbrev pub maxBound : ℕ
+maxBound = 255
+
+abbrev pub maxClauses : ℕ
+maxClauses = 1024
+
+abbrev pub maxLiterals : ℕ
+maxLiterals = 4096
+
+-- All literals of all clauses, as written.
+unfoldable pub literals : List (List ℤ) → ℕ
+literals [] = 0
+literals (C ∷ Cs) = length C + literals Cs
+
+-- Two nodes, numbered from 0, and a variable, numbered from 1.
+pub record EndsFit (nodes variables from to variable : ℕ) : Type 0 where
+  pub from-in : from < nodes
+  pub to-in : to < nodes
+  pub low : 1 ≤ variable
+  pub high : variable ≤ variables
+
+-- "A literal is a variable's number, negative for off, and never 0"
+pub record LiteralFits (variables : ℕ) (l : ℤ) : Type 0 where
+  pub low : 1 ≤ natAbs l
+  pub high : natAbs l ≤ variables
+
+pub record Ranged (φ : PlanFile) : Type 0 where
+  pub node : 1 ≤ φ .nodes
+  pub nodes : φ .nodes ≤ maxNodes
+  pub variable : 1 ≤ φ .variables
+  pub variables : φ .variables ≤ maxVariables
+  pub edges : length (φ .edges) ≤ maxEdges
+  pub atoms : length (φ .atoms) ≤ maxAtoms
+  pub clauses : length (φ .clauses) ≤ maxClauses
+  pub literals : literals (φ .clauses) ≤ maxLiterals
+  pub edge : (e : Edge) → List·Memᴰ e (φ .edges) → EndsFit (φ .nodes) (φ .variables) (e .from) (e .to) (e .variable)
+  pub atom : (A : Atom) → List·Memᴰ A (φ .atoms) → EndsFit (φ .nodes) (φ .variables) (A .from) (A .to) (A .variable)
+  -- "Kind 1 is 'reaches', bound 0. Kind 2 is 'within', bound 0 to 255."
+  pub kind : (A : Atom) → List·Memᴰ A (φ .atoms) → ((A .kind ≡ 1) × (A .bound ≡ 0)) ⊎ ((A .kind ≡ 2) × (A .bound ≤ maxBound))
+  -- "An empty clause is malformed."
+  pub clause : (C : List ℤ) → List·Memᴰ C (φ .clauses) → 1 ≤ length C
+  pub literal : (C : List ℤ) → List·Memᴰ C (φ .clauses) → (l : ℤ) → List·Memᴰ l C → LiteralFits (φ .variables) l
+  -- "A variable may not serve an edge and an atom."
+  pub apart : (e : Edge) → List·Memᴰ e (φ .edges) → (A : Atom) → List·Memᴰ A (φ .atoms) → e .variable ≡ A .variable → ⊥

@@ -1,0 +1,208 @@
+ghost use mathlib.Core.Path.{_≡_};
+ghost use Prim.Native.Nat.{ℕ, _+_, _*_, _-_, _<_, _≤_};
+ghost use lib.IntN.{ℤ, pos, negsuc, negℤ, natAbs};
+ghost use lib.ListN.{length, getD, replicate};
+ghost use Rattle.plan.specs.Meaning.{add, edge, atom};
+ghost use Rattle.plan.specs.Search.{Assigned};
+ghost use Rattle.plan.specs.Ranged.{LiteralFits};
+ghost use Rattle.plan.specs.Tables.{edgesOf, atomsOf, edgeOf, atomOf, literalValue};
+
+// Why a call is refused, with the value that is returned beside the number.
+pub enum Refusal {
+    TooLong,
+    Cut(usize),
+    Misplaced(usize),
+    UnknownTag(usize),
+    BadLength(usize),
+    OutOfRange(usize),
+    TooMany(usize),
+    Shared(usize),
+    WrongLength(usize),
+    BadValue(usize),
+    NoSuchAtom(usize),
+    NoRoom(usize),
+}
+
+// What a partial assignment says of an atom.
+pub enum State {
+    Holds,
+    Fails,
+    Open,
+}
+
+// What stands in the tables of a plan file that was read: how many of each sort.
+pub struct Plan {
+    pub nodes: u16,
+    pub variables: u16,
+    pub edges: usize,
+    pub atoms: usize,
+    pub clauses: usize,
+    pub literals: usize,
+}
+
+impl Plan {
+    pub const MAX_BYTES: usize = 16384;
+
+    pub const MAX_NODES: u16 = 64;
+
+    pub const MAX_VARIABLES: u16 = 512;
+
+    pub const MAX_EDGES: usize = 256;
+}
+
+pub struct Edge {
+    pub from: u16,
+    pub to: u16,
+    pub variable: u16,
+}
+
+impl Edge {
+    pub const NUMBERS: usize = 3;
+
+    pub const TABLE: usize = Plan::MAX_EDGES * Edge::NUMBERS;
+}
+
+pub struct Atom {
+    pub kind: u16,
+    pub from: u16,
+    pub to: u16,
+    pub bound: u16,
+    pub variable: u16,
+}
+
+impl Atom {
+    pub const MAX: usize = 64;
+
+    pub const MAX_BOUND: u16 = 255;
+
+    pub const NUMBERS: usize = 5;
+
+    pub const TABLE: usize = Atom::MAX * Atom::NUMBERS;
+}
+
+pub struct Clause {
+    pub literals: usize,
+}
+
+impl Clause {
+    pub const MAX: usize = 1024;
+
+    pub const MAX_LITERALS: usize = 4096;
+
+    pub const TABLE: usize = Clause::MAX_LITERALS + Clause::MAX;
+}
+
+// An assignment: the value of variable v, 1 on, -1 off, 0 open, stands at place v - 1.
+pub struct Assignment {
+    pub values: [i8; 512],
+}
+
+impl Assignment {
+    pub const MAX: usize = 512;
+
+    pub fn all_open() -> Assignment
+        ensures { λ r. ⌜ r .values ≡ replicate 512 (pos 0) ⌝ }
+    {
+        let values = [0i8; Assignment::MAX];
+        Assignment { values: values }
+    }
+
+    // The assignment with one literal more.
+    pub fn with(self, literal: i16) -> Assignment
+        requires { ⌜ LiteralFits 512 literal ⌝ }
+        ensures { λ r. ⌜ r .values ≡ add (self .values) literal ⌝ }
+    {
+        let at = variable_of(literal) - 1;
+        let mut next = self;
+        if literal > 0 {
+            next.values[at] = 1;
+        } else {
+            next.values[at] = -1;
+        }
+        next
+    }
+}
+
+pub fn wide(x: u16) -> usize
+    ensures { λ r. ⌜ r ≡ x ⌝ }
+{
+    x as usize
+}
+
+// The opposite of a literal; -32,768 has none.
+pub fn opposite(literal: i16) -> i16
+    requires { ⌜ (literal ≡ negsuc 32767 → ⊥) ⌝ }
+    ensures { λ r. ⌜ r ≡ negℤ literal ⌝ }
+{
+    -literal
+}
+
+// The variable of a literal.
+pub fn variable_of(literal: i16) -> usize
+    requires { ⌜ (literal ≡ negsuc 32767 → ⊥) ⌝ }
+    ensures { λ r. ⌜ r ≡ natAbs literal ⌝ }
+{
+    if literal < 0 {
+        (-literal) as usize
+    } else {
+        literal as usize
+    }
+}
+
+// What a literal is in an assignment: 1 true, -1 false, 0 open.
+pub fn value_of(values: &[i8], literal: i16) -> i8
+    requires { ⌜ Assigned (length (now values)) (now values) ⌝ }
+    requires { ⌜ length (now values) ≤ 512 ⌝ }
+    requires { ⌜ LiteralFits (length (now values)) literal ⌝ }
+    ensures { λ r. ⌜ r ≡ literalValue (now (values .entry)) literal ⌝ }
+{
+    let at = variable_of(literal) - 1;
+    let value = values[at];
+    if literal > 0 {
+        value
+    } else {
+        -value
+    }
+}
+
+// Adds one literal to a lent assignment.
+pub fn put(values: &mut [i8], literal: i16)
+    requires { ⌜ length (now values) ≤ 512 ⌝ }
+    requires { ⌜ LiteralFits (length (now values)) literal ⌝ }
+    ensures { λ _. ⌜ now (values .exit) ≡ add (now (values .entry)) literal ⌝ }
+{
+    let at = variable_of(literal) - 1;
+    if literal > 0 {
+        values[at] = 1;
+    } else {
+        values[at] = -1;
+    }
+}
+
+// The edge numbered k, from 0, of an edge table.
+pub fn edge_at(edges: &[u16], k: usize) -> Edge
+    requires { ⌜ k * 3 + 2 < length (now edges) ⌝ }
+    ensures { λ r. ⌜ edgeOf r ≡ edge (edgesOf (now (edges .entry))) k ⌝ }
+{
+    let at = k * Edge::NUMBERS;
+    Edge {
+        from: edges[at],
+        to: edges[at + 1],
+        variable: edges[at + 2],
+    }
+}
+
+// The atom numbered k, from 0, of an atom table.
+pub fn atom_at(atoms: &[u16], k: usize) -> Atom
+    requires { ⌜ k * 5 + 4 < length (now atoms) ⌝ }
+    ensures { λ r. ⌜ atomOf r ≡ atom (atomsOf (now (atoms .entry))) k ⌝ }
+{
+    let at = k * Atom::NUMBERS;
+    Atom {
+        kind: atoms[at],
+        from: atoms[at + 1],
+        to: atoms[at + 2],
+        bound: atoms[at + 3],
+        variable: atoms[at + 4],
+    }
+}

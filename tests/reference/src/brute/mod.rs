@@ -1,0 +1,9 @@
+//! A brute-force second opinion for small files, in another style throughout:
+//! refusals are all collected and the first is picked, walks are matrix powers,
+//! closing is an intersection of sets, plans are found by trying everything.
+
+pub mod plans;
+pub mod reader;
+pub mod reasons;
+pub mod sets;
+pub mod walks;

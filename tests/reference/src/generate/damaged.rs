@@ -1,0 +1,106 @@
+//! Damaged files: a good file with one to three things done to it.
+
+use super::{metro, scattered};
+use crate::random::Random;
+use crate::write;
+
+pub fn damaged(random: &mut Random) -> Vec<u8> {
+    let plan = match random.below(8) {
+        0 => metro::metro(random),
+        1 => scattered::medium(random),
+        2 => scattered::shared(random),
+        _ => scattered::small(random),
+    };
+    let mut records = write::mixed_records(&plan, random);
+    if random.chance(50) {
+        let times = random.between(1, 2);
+        for _ in 0..times {
+            damage_records(&mut records, random);
+        }
+        return records.concat();
+    }
+    let mut bytes = records.concat();
+    let times = random.between(1, 3);
+    for _ in 0..times {
+        damage_bytes(&mut bytes, random);
+    }
+    bytes
+}
+
+/// Damage that knows where the bytes of a file stand, but not what they mean.
+fn damage_bytes(bytes: &mut Vec<u8>, random: &mut Random) {
+    let any = random.next() as u8;
+    match random.below(6) {
+        0 => bytes.truncate(random.below(bytes.len() + 1)),
+        1 => {
+            let behind = random.between(1, 4);
+            bytes.extend((0..behind).map(|_| random.pick(&[0, 1, 4, 5, 255])));
+        }
+        2 => bytes.insert(random.below(bytes.len() + 1), any),
+        _ if bytes.is_empty() => (),
+        3 => {
+            let place = random.below(bytes.len());
+            bytes[place] ^= 1 << random.below(8);
+        }
+        4 => {
+            let place = random.below(bytes.len());
+            bytes[place] = any;
+        }
+        _ => {
+            bytes.remove(random.below(bytes.len()));
+        }
+    }
+}
+
+/// Damage that knows the records: tags, lengths, fields, order.
+fn damage_records(records: &mut Vec<Vec<u8>>, random: &mut Random) {
+    if records.is_empty() {
+        return;
+    }
+    let at = random.below(records.len());
+    match random.below(9) {
+        0 => records[at][0] = random.pick(&[0, 1, 2, 3, 4, 5, 6, 7, 128, 255]),
+        1 => {
+            let off_by = random.pick(&[1, 2, 255, 254]);
+            records[at][2] = records[at][2].wrapping_add(off_by);
+        }
+        2 => {
+            records[at][2] = records[at][2].wrapping_sub(1);
+            records[at].pop();
+        }
+        3 => {
+            records[at][2] = records[at][2].wrapping_add(1);
+            records[at].push(random.pick(&[0, 1, 255]));
+        }
+        4 => {
+            records.remove(at);
+        }
+        5 => {
+            let again = records[at].clone();
+            records.insert(random.below(records.len() + 1), again);
+        }
+        6 => {
+            let other = random.below(records.len());
+            records.swap(at, other);
+        }
+        _ => damage_field(&mut records[at], random),
+    }
+}
+
+/// Sets a two-byte field of a value to something at or past the end of a range.
+fn damage_field(record: &mut [u8], random: &mut Random) {
+    let value = record.len() - 3;
+    if value < 2 {
+        return;
+    }
+    // An atom's fields stand behind its kind, which is one byte.
+    let start = 3 + value % 2;
+    if value % 2 == 1 && random.chance(30) {
+        record[3] = random.pick(&[0, 1, 2, 3, 255]);
+        return;
+    }
+    let place = start + 2 * random.below(value / 2);
+    let ends = [0, 1, 63, 64, 255, 256, 512, 513, 32_767, 32_768, 65_535, 65_023];
+    let field: u16 = random.pick(&ends);
+    record[place..place + 2].copy_from_slice(&field.to_be_bytes());
+}

@@ -1,0 +1,137 @@
+//! Files at each limit and one past it, with random contents.
+
+use super::scattered::literal;
+use crate::file::{
+    PlanFile, ATOMS, BOUND, CLAUSES, EDGES, FILE_BYTES, LITERALS, NODES, VARIABLES,
+};
+use crate::random::Random;
+use crate::write;
+
+/// A file at one of the limits, or one past it.
+pub fn limit(random: &mut Random) -> Vec<u8> {
+    let past = random.below(2);
+    match random.below(9) {
+        0 => write::to_bytes(&full(random)),
+        1 => with_nodes(NODES + past, random),
+        2 => with_variables(VARIABLES + past, random),
+        3 => write::to_bytes(&with_edges(EDGES + past, random)),
+        4 => write::to_bytes(&with_atoms(ATOMS + past, random)),
+        5 => write::to_bytes(&with_clauses(CLAUSES + past, random)),
+        6 => write::to_bytes(&with_literals(LITERALS + past, random)),
+        7 => with_bound(BOUND + past, random),
+        _ => with_bytes(FILE_BYTES + past, random),
+    }
+}
+
+fn with_nodes(nodes: usize, random: &mut Random) -> Vec<u8> {
+    let mut plan = PlanFile::with_nodes(nodes);
+    let from = random.below(nodes);
+    plan.edge(from, nodes - 1);
+    plan.reaches(from, nodes - 1);
+    write::to_bytes(&plan)
+}
+
+fn with_variables(variables: usize, random: &mut Random) -> Vec<u8> {
+    let mut plan = PlanFile::with_nodes(random.between(1, NODES));
+    plan.variables = variables;
+    plan.edge_of(0, plan.nodes - 1, random.pick(&[1, variables]));
+    // Every variable has a clause of its own, so that the search is short.
+    for variable in 1..=variables {
+        if random.chance(50) {
+            plan.must(variable);
+        } else {
+            plan.must_not(variable);
+        }
+    }
+    write::to_bytes(&plan)
+}
+
+fn with_edges(edges: usize, random: &mut Random) -> PlanFile {
+    let mut plan = PlanFile::with_nodes(random.between(2, NODES));
+    plan.variables = EDGES;
+    for _ in 0..edges {
+        let (from, to) = (random.below(plan.nodes), random.below(plan.nodes));
+        plan.edge_of(from, to, random.between(1, EDGES));
+    }
+    let target = random.below(plan.nodes);
+    let reached = plan.reaches(0, target);
+    plan.must(reached);
+    plan
+}
+
+fn with_atoms(atoms: usize, random: &mut Random) -> PlanFile {
+    let mut plan = PlanFile::with_nodes(random.between(2, 12));
+    for _ in 0..10 {
+        let (from, to) = (random.below(plan.nodes), random.below(plan.nodes));
+        plan.edge(from, to);
+    }
+    for _ in 0..atoms {
+        let (from, to) = (random.below(plan.nodes), random.below(plan.nodes));
+        plan.within(from, to, random.below(5));
+    }
+    plan
+}
+
+/// Clauses of one to three literals over few variables.
+fn with_clauses(clauses: usize, random: &mut Random) -> PlanFile {
+    let mut plan = PlanFile::with_nodes(1);
+    plan.variables = random.between(4, VARIABLES);
+    for _ in 0..clauses {
+        let length = random.between(1, 3);
+        let clause = (0..length).map(|_| literal(plan.variables, random)).collect();
+        plan.clauses.push(clause);
+    }
+    plan
+}
+
+/// So many literals in as few or as many clauses as it happens.
+fn with_literals(literals: usize, random: &mut Random) -> PlanFile {
+    let mut plan = PlanFile::with_nodes(1);
+    plan.variables = random.between(4, VARIABLES);
+    let mut left = literals;
+    while left > 0 {
+        let most = random.pick(&[8, 40, 1_000, LITERALS + 1]);
+        let length = if left <= 8 { left } else { random.between(8, most.max(8)).min(left) };
+        let clause = (0..length).map(|_| literal(plan.variables, random)).collect();
+        plan.clauses.push(clause);
+        left -= length;
+    }
+    plan
+}
+
+fn with_bound(bound: usize, random: &mut Random) -> Vec<u8> {
+    let mut plan = PlanFile::with_nodes(random.between(2, 6));
+    let x = plan.edge(0, 1);
+    let a = plan.within(0, 1, bound);
+    plan.one_of(&[x, a]);
+    write::to_bytes(&plan)
+}
+
+/// No file of so many bytes is accepted: the rest stands behind the end record.
+fn with_bytes(bytes: usize, random: &mut Random) -> Vec<u8> {
+    let mut file = write::to_bytes(&with_clauses(random.between(1, CLAUSES), random));
+    file.resize(bytes, random.pick(&[0, 5, 255]));
+    file
+}
+
+/// The largest file there is: every limit reached at once.
+pub fn full(random: &mut Random) -> PlanFile {
+    let mut plan = PlanFile::with_nodes(NODES);
+    plan.variables = VARIABLES;
+    for k in 0..EDGES {
+        plan.edge_of(random.below(NODES), random.below(NODES), k + 1);
+    }
+    for k in 0..ATOMS {
+        let kind = if random.chance(50) {
+            crate::file::Kind::Reaches
+        } else {
+            crate::file::Kind::Within(random.below(8))
+        };
+        plan.atom_of(kind, random.below(NODES), random.below(NODES), EDGES + k + 1);
+    }
+    for _ in 0..CLAUSES {
+        let clause = (0..LITERALS / CLAUSES).map(|_| literal(VARIABLES, random)).collect();
+        plan.clauses.push(clause);
+    }
+    plan
+}

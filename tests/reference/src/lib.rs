@@ -1,0 +1,34 @@
+//! An independent reference of linkplan, written from document 01 alone.
+//!
+//! It aims at being read beside the document, not at speed. The modules follow
+//! the document's sections; `brute` answers the same questions once more in
+//! another style, so that a slip has to be made twice to go unnoticed.
+
+// The document's sections.
+pub mod calls;
+pub mod clauses;
+pub mod close;
+pub mod file;
+pub mod judge;
+pub mod meaning;
+pub mod reason;
+pub mod search;
+
+// What the programs print, and the requests of `linkcalls`.
+pub mod programs;
+pub mod protocol;
+
+// Second opinions.
+pub mod brute;
+pub mod sat;
+
+// Files and requests to try.
+pub mod generate;
+pub mod random;
+pub mod sample;
+pub mod stored;
+pub mod write;
+
+// The checks themselves.
+pub mod compare;
+pub mod selftest;
