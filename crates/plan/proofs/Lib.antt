@@ -13,3 +13,5 @@ pub mod Explain
 pub mod Tables
 pub mod Values
 pub mod Signs
+pub mod Cases
+pub mod Refusals

@@ -5,9 +5,11 @@ use mathlib.Core.Logic.{_⊎_, inl, inr, _≢_}
 use mathlib.Core.List.{List, [], _∷_, _++_, List·Memᴰ, List·Memᴰ·head, List·Memᴰ·tail, List·Memᴰ·cases-cons, List·Memᴰ·not-nil}
 use Prim.Native.Nat.{ℕ, zero, suc, _+_, _*_, _≤_, _<_}
 use native.Mathlib.Omega.{arith}
-use lib.ListN.{length, getD}
+use lib.ListN.{length, getD, length-append}
 use lib.IntN.{ℤ, pos, negsuc}
 use Rattle.plan.specs.Meaning.{Edge, Atom}
+use Rattle.plan.specs.Ranged.{literals}
+use Rattle.plan.specs.Written.{flat}
 use Rattle.plan.specs.Tables.{edgesOf, atomsOf, inFront, clausesOf}
 
 pub edges-length : (l : List ℕ) (n : ℕ) → length l ≡ n * 3 → length (edgesOf l) ≡ n
@@ -73,3 +75,14 @@ clause-at [] r h = refl
 clause-at (pos zero ∷ C) r h = absurd (h (pos 0) (List·Memᴰ·head refl) refl)
 clause-at (pos (suc n) ∷ C) r h = ap (inFront (pos (suc n))) (clause-at C r (λ l m. h l (List·Memᴰ·tail m)))
 clause-at (negsuc n ∷ C) r h = ap (inFront (negsuc n)) (clause-at C r (λ l m. h l (List·Memᴰ·tail m)))
+
+-- a table of clauses whose literals are not 0, read back
+pub clauses-back : (Cs : List (List ℤ)) → ((C : List ℤ) → List·Memᴰ C Cs → (l : ℤ) → List·Memᴰ l C → l ≢ pos 0) → clausesOf (flat Cs) ≡ Cs
+unfolding clausesOf flat
+clauses-back [] h = refl
+clauses-back (C ∷ Cs) h = clause-at C (flat Cs) (λ l m. h C (List·Memᴰ·head refl) l m) ∙ ap (λ z. C ∷ z) (clauses-back Cs (λ D m. h D (List·Memᴰ·tail m)))
+
+pub flat-length : (Cs : List (List ℤ)) → length (flat Cs) ≡ literals Cs + length Cs
+unfolding flat literals
+flat-length [] = refl
+flat-length (C ∷ Cs) = length-append C (pos 0 ∷ flat Cs) ∙ omega (arith, flat-length Cs)

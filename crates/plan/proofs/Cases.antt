@@ -1,0 +1,317 @@
+-- The document's proved cases P1 to P10, as one table: each is a test that antt computes, and one law turns a passed test into what
+-- the definitions say.
+-- Assumes nothing.
+use mathlib.Core.Path.{_≡_, refl, sym, subst, _∙_, ap, ap₂}
+use mathlib.Core.Logic.{_⊎_, inl, inr, _↔_}
+use mathlib.Core.Bool.{Bool, true, false, not, _&&_, _||_}
+use mathlib.Core.List.{List, [], _∷_, List·Memᴰ, List·Memᴰ·head, List·Memᴰ·tail, List·Memᴰ·cases-cons, List·Memᴰ·not-nil}
+use Prim.Native.Nat.{ℕ, zero, suc, _+_, _≤_, _<_}
+use native.Mathlib.Omega.{arith}
+use lib.ListN.{length, getD}
+use lib.IntN.{ℤ, pos, negsuc, negℤ, natAbs}
+use lib.Dec.{T, T-not, eqb, eqb→eq, eqb-refl, ltb, ltb→lt, leb, leb→le}
+use Rattle.plan.specs.Meaning.{Edge, Atom, PlanFile, edge, IsTrue, on, off, isOn, isOff, value, trueIn, add, under, Full, IsPlan}
+use Rattle.plan.specs.Ranged.{maxNodes, maxVariables, maxEdges, maxAtoms, maxBound, maxClauses, maxLiterals, literals, EndsFit, Ranged}
+use Rattle.plan.specs.Search.{Assigned, Closes, CloseIs, Outcome, nothing, found, Tree}
+use Rattle.plan.specs.Judging.{Verdict, plan, no-true, wrong, Judged}
+use Rattle.plan.specs.Reason.{Reason, holds, fails, neither, ReasonIs}
+use Rattle.plan.proofs.Bools.{allOf, anyOf, and-left, and-right, or-cases, all-each}
+use Rattle.plan.proofs.Levels.{next, reached, isTrueAt?, isTrue?, true-iff}
+use Rattle.plan.proofs.Add.{on-one, off-one}
+use Rattle.plan.proofs.Compute.{eqℤ, close, Counted, search}
+use Rattle.plan.proofs.Exists.{eqℤ→eq, closing-is, searching-is}
+use Rattle.plan.proofs.Judging.{judge, judge-is}
+use Rattle.plan.proofs.Explain.{reason, reason-is}
+
+-- tests of shape: what an accepted file has
+abbrev between : ℕ → ℕ → ℕ → Bool
+between a v b = leb a v && leb v b
+
+between-is : (a v b : ℕ) → T (between a v b) → (a ≤ v) × (v ≤ b)
+between-is a v b t = (leb→le a v (and-left (leb a v) _ t), leb→le v b (and-right (leb a v) _ t))
+
+abbrev ends? : ℕ → ℕ → ℕ → ℕ → ℕ → Bool
+ends? n m f t v = ltb f n && (ltb t n && between 1 v m)
+
+ends-fit : (n m f t v : ℕ) → T (ends? n m f t v) → EndsFit n m f t v
+ends-fit n m f t v h =
+    let h1 = and-right (ltb f n) _ h in
+    let h2 = between-is 1 v m (and-right (ltb t n) _ h1) in
+    record { from-in = ltb→lt f n (and-left (ltb f n) _ h); to-in = ltb→lt t n (and-left (ltb t n) _ h1); low = h2 .0; high = h2 .1 }
+
+abbrev edgeFits? : PlanFile → Edge → Bool
+edgeFits? φ e = ends? (φ .nodes) (φ .variables) (e .from) (e .to) (e .variable)
+
+abbrev kind? : Atom → Bool
+kind? A = (eqb (A .kind) 1 && eqb (A .bound) 0) || (eqb (A .kind) 2 && leb (A .bound) maxBound)
+
+abbrev atomFits? : PlanFile → Atom → Bool
+atomFits? φ A = ends? (φ .nodes) (φ .variables) (A .from) (A .to) (A .variable) && (kind? A && allOf (λ e. not (eqb (e .variable) (A .variable))) (φ .edges))
+
+abbrev clauseFits? : PlanFile → List ℤ → Bool
+clauseFits? φ C = leb 1 (length C) && allOf (λ l. between 1 (natAbs l) (φ .variables)) C
+
+abbrev counts? : PlanFile → Bool
+counts? φ =
+    between 1 (φ .nodes) maxNodes && (between 1 (φ .variables) maxVariables && (leb (length (φ .edges)) maxEdges
+    && (leb (length (φ .atoms)) maxAtoms && (leb (length (φ .clauses)) maxClauses && leb (literals (φ .clauses)) maxLiterals))))
+
+abbrev ranged? : PlanFile → Bool
+ranged? φ = counts? φ && (allOf (edgeFits? φ) (φ .edges) && (allOf (atomFits? φ) (φ .atoms) && allOf (clauseFits? φ) (φ .clauses)))
+
+kind-is : (A : Atom) → T (eqb (A .kind) 1 && eqb (A .bound) 0) ⊎ T (eqb (A .kind) 2 && leb (A .bound) maxBound)
+    → ((A .kind ≡ 1) × (A .bound ≡ 0)) ⊎ ((A .kind ≡ 2) × (A .bound ≤ maxBound))
+kind-is A (inl t) = inl (eqb→eq (A .kind) 1 (and-left (eqb (A .kind) 1) _ t), eqb→eq (A .bound) 0 (and-right (eqb (A .kind) 1) _ t))
+kind-is A (inr t) = inr (eqb→eq (A .kind) 2 (and-left (eqb (A .kind) 2) _ t), leb→le (A .bound) maxBound (and-right (eqb (A .kind) 2) _ t))
+
+ranged : (φ : PlanFile) → T (ranged? φ) → Ranged φ
+ranged φ t =
+    let c0 = and-left (counts? φ) _ t in
+    let c1 = and-right (between 1 (φ .nodes) maxNodes) _ c0 in
+    let c2 = and-right (between 1 (φ .variables) maxVariables) _ c1 in
+    let c3 = and-right (leb (length (φ .edges)) maxEdges) _ c2 in
+    let c4 = and-right (leb (length (φ .atoms)) maxAtoms) _ c3 in
+    let n = between-is 1 (φ .nodes) maxNodes (and-left (between 1 (φ .nodes) maxNodes) _ c0) in
+    let v = between-is 1 (φ .variables) maxVariables (and-left (between 1 (φ .variables) maxVariables) _ c1) in
+    let t1 = and-right (counts? φ) _ t in
+    let t2 = and-right (allOf (edgeFits? φ) (φ .edges)) _ t1 in
+    let es = and-left (allOf (edgeFits? φ) (φ .edges)) _ t1 in
+    let bs = all-each (atomFits? φ) (φ .atoms) (and-left (allOf (atomFits? φ) (φ .atoms)) _ t2) in
+    let cs = all-each (clauseFits? φ) (φ .clauses) (and-right (allOf (atomFits? φ) (φ .atoms)) _ t2) in
+    record {
+      node = n .0;
+      nodes = n .1;
+      variable = v .0;
+      variables = v .1;
+      edges = leb→le (length (φ .edges)) maxEdges (and-left (leb (length (φ .edges)) maxEdges) _ c2);
+      atoms = leb→le (length (φ .atoms)) maxAtoms (and-left (leb (length (φ .atoms)) maxAtoms) _ c3);
+      clauses = leb→le (length (φ .clauses)) maxClauses (and-left (leb (length (φ .clauses)) maxClauses) _ c4);
+      literals = leb→le (literals (φ .clauses)) maxLiterals (and-right (leb (length (φ .clauses)) maxClauses) _ c4);
+      edge = λ e m. ends-fit (φ .nodes) (φ .variables) (e .from) (e .to) (e .variable) (all-each (edgeFits? φ) (φ .edges) es e m);
+      atom = λ A m. ends-fit (φ .nodes) (φ .variables) (A .from) (A .to) (A .variable) (and-left (ends? (φ .nodes) (φ .variables) (A .from) (A .to) (A .variable)) _ (bs A m));
+      kind = λ A m. kind-is A (or-cases (eqb (A .kind) 1 && eqb (A .bound) 0) _ (and-left (kind? A) _ (and-right (ends? (φ .nodes) (φ .variables) (A .from) (A .to) (A .variable)) _ (bs A m))));
+      clause = λ C m. leb→le 1 (length C) (and-left (leb 1 (length C)) _ (cs C m));
+      literal = λ C m l k.
+          let h = between-is 1 (natAbs l) (φ .variables) (all-each (λ l. between 1 (natAbs l) (φ .variables)) C (and-right (leb 1 (length C)) _ (cs C m)) l k) in
+          record { low = h .0; high = h .1 };
+      apart = λ e m A k q.
+          let h = all-each (λ e. not (eqb (e .variable) (A .variable))) (φ .edges) (and-right (kind? A) _ (and-right (ends? (φ .nodes) (φ .variables) (A .from) (A .to) (A .variable)) _ (bs A k))) e m in
+          T-not (eqb (e .variable) (A .variable)) h (subst (λ z. T (eqb (e .variable) z)) q (eqb-refl (e .variable)));
+    }
+
+all-getD : {A : Type 0} (f : A → Bool) (xs : List A) (d : A) → T (allOf f xs) → (i : ℕ) → i < length xs → T (f (getD xs i d))
+all-getD f [] d t i h = absurd (omega arith)
+all-getD f (x ∷ xs) d t zero h = and-left (f x) _ t
+all-getD f (x ∷ xs) d t (suc i) h = all-getD f xs d (and-right (f x) _ t) i (omega arith)
+
+abbrev full? : ℕ → List ℤ → Bool
+full? n a = eqb (length a) n && allOf (λ x. isOn x || isOff x) a
+
+full-is : (n : ℕ) (a : List ℤ) → T (full? n a) → Full n a
+full-is n a t = record { long = long; each = λ i h. go i (or-cases (isOn (getD a i (pos 0))) _ (all-getD _ a (pos 0) (and-right (eqb (length a) n) _ t) i (omega (arith, long)))) }
+  where
+    long : length a ≡ n
+    long = eqb→eq (length a) n (and-left (eqb (length a) n) _ t)
+
+    go : (i : ℕ) → T (isOn (getD a i (pos 0))) ⊎ T (isOff (getD a i (pos 0))) → (getD a i (pos 0) ≡ pos 1) ⊎ (getD a i (pos 0) ≡ negsuc 0)
+    go i (inl h) = inl (on-one (getD a i (pos 0)) h)
+    go i (inr h) = inr (off-one (getD a i (pos 0)) h)
+
+abbrev assigned? : ℕ → List ℤ → Bool
+assigned? n a = eqb (length a) n && allOf (λ x. isOn x || (isOff x || eqℤ x (pos 0))) a
+
+assigned-is : (n : ℕ) (a : List ℤ) → T (assigned? n a) → Assigned n a
+assigned-is n a t = record { long = long; each = λ i h. go i (or-cases (isOn (getD a i (pos 0))) _ (all-getD _ a (pos 0) (and-right (eqb (length a) n) _ t) i (omega (arith, long)))) }
+  where
+    long : length a ≡ n
+    long = eqb→eq (length a) n (and-left (eqb (length a) n) _ t)
+
+    rest : (i : ℕ) → T (isOff (getD a i (pos 0))) ⊎ T (eqℤ (getD a i (pos 0)) (pos 0)) → (getD a i (pos 0) ≡ pos 1) ⊎ (getD a i (pos 0) ≡ negsuc 0) ⊎ (getD a i (pos 0) ≡ pos 0)
+    rest i (inl h) = inr (inl (off-one (getD a i (pos 0)) h))
+    rest i (inr h) = inr (inr (eqℤ→eq (getD a i (pos 0)) (pos 0) h))
+
+    go : (i : ℕ) → T (isOn (getD a i (pos 0))) ⊎ T (isOff (getD a i (pos 0)) || eqℤ (getD a i (pos 0)) (pos 0))
+        → (getD a i (pos 0) ≡ pos 1) ⊎ (getD a i (pos 0) ≡ negsuc 0) ⊎ (getD a i (pos 0) ≡ pos 0)
+    go i (inl h) = inl (on-one (getD a i (pos 0)) h)
+    go i (inr h) = rest i (or-cases (isOff (getD a i (pos 0))) _ h)
+
+-- tests of equality
+abbrev eqList : List ℤ → List ℤ → Bool
+eqList [] [] = true
+eqList [] (y ∷ ys) = false
+eqList (x ∷ xs) [] = false
+eqList (x ∷ xs) (y ∷ ys) = eqℤ x y && eqList xs ys
+
+eqList→eq : (xs ys : List ℤ) → T (eqList xs ys) → xs ≡ ys
+eqList→eq [] [] t = refl
+eqList→eq [] (y ∷ ys) t = absurd t
+eqList→eq (x ∷ xs) [] t = absurd t
+eqList→eq (x ∷ xs) (y ∷ ys) t = ap₂ (λ z zs. z ∷ zs) (eqℤ→eq x y (and-left (eqℤ x y) _ t)) (eqList→eq xs ys (and-right (eqℤ x y) _ t))
+
+abbrev eqOutcome : Outcome → Outcome → Bool
+eqOutcome nothing nothing = true
+eqOutcome nothing (found q) = false
+eqOutcome (found p) nothing = false
+eqOutcome (found p) (found q) = eqList p q
+
+eqOutcome→eq : (o r : Outcome) → T (eqOutcome o r) → o ≡ r
+eqOutcome→eq nothing nothing t = refl
+eqOutcome→eq nothing (found q) t = absurd t
+eqOutcome→eq (found p) nothing t = absurd t
+eqOutcome→eq (found p) (found q) t = ap found (eqList→eq p q t)
+
+abbrev eqVerdict : Verdict → Verdict → Bool
+eqVerdict plan plan = true
+eqVerdict plan (no-true n) = false
+eqVerdict plan (wrong n) = false
+eqVerdict (no-true m) plan = false
+eqVerdict (no-true m) (no-true n) = eqb m n
+eqVerdict (no-true m) (wrong n) = false
+eqVerdict (wrong m) plan = false
+eqVerdict (wrong m) (no-true n) = false
+eqVerdict (wrong m) (wrong n) = eqb m n
+
+eqVerdict→eq : (v w : Verdict) → T (eqVerdict v w) → v ≡ w
+eqVerdict→eq plan plan t = refl
+eqVerdict→eq plan (no-true n) t = absurd t
+eqVerdict→eq plan (wrong n) t = absurd t
+eqVerdict→eq (no-true m) plan t = absurd t
+eqVerdict→eq (no-true m) (no-true n) t = ap no-true (eqb→eq m n t)
+eqVerdict→eq (no-true m) (wrong n) t = absurd t
+eqVerdict→eq (wrong m) plan t = absurd t
+eqVerdict→eq (wrong m) (no-true n) t = absurd t
+eqVerdict→eq (wrong m) (wrong n) t = ap wrong (eqb→eq m n t)
+
+abbrev eqReason : Reason → Reason → Bool
+eqReason (holds r) (holds r′) = eqList r r′
+eqReason (holds r) (fails r′) = false
+eqReason (holds r) neither = false
+eqReason (fails r) (holds r′) = false
+eqReason (fails r) (fails r′) = eqList r r′
+eqReason (fails r) neither = false
+eqReason neither (holds r′) = false
+eqReason neither (fails r′) = false
+eqReason neither neither = true
+
+eqReason→eq : (r r′ : Reason) → T (eqReason r r′) → r ≡ r′
+eqReason→eq (holds r) (holds r′) t = ap holds (eqList→eq r r′ t)
+eqReason→eq (holds r) (fails r′) t = absurd t
+eqReason→eq (holds r) neither t = absurd t
+eqReason→eq (fails r) (holds r′) t = absurd t
+eqReason→eq (fails r) (fails r′) t = ap fails (eqList→eq r r′ t)
+eqReason→eq (fails r) neither t = absurd t
+eqReason→eq neither (holds r′) t = absurd t
+eqReason→eq neither (fails r′) t = absurd t
+eqReason→eq neither neither t = refl
+
+-- a case: over a file and an assignment, what is so
+pub data Case : Type 0 where
+  is-true : PlanFile → List ℤ → Atom → Case
+  is-false : PlanFile → List ℤ → Atom → Case
+  judges : PlanFile → List ℤ → Verdict → Case
+  closes : PlanFile → List ℤ → Outcome → Case
+  explains : PlanFile → List ℤ → Atom → Reason → Case
+  finds : PlanFile → List ℤ → Outcome → ℕ → Case
+
+abbrev pub Says : Case → Type 0
+Says (is-true φ a A) = IsTrue (φ .edges) (under (trueIn a)) A
+Says (is-false φ a A) = IsTrue (φ .edges) (under (trueIn a)) A → ⊥
+Says (judges φ a v) = Judged φ a v
+Says (closes φ a o) = CloseIs φ a o
+Says (explains φ a A r) = ReasonIs φ a A r
+Says (finds φ a o b) = Tree φ a o b
+
+abbrev atomFits : PlanFile → Atom → Bool
+atomFits φ A = ranged? φ && ltb (A .from) (φ .nodes)
+
+abbrev pub passes : Case → Bool
+passes (is-true φ a A) = atomFits φ A && isTrue? (φ .nodes) (φ .edges) (under (trueIn a)) A
+passes (is-false φ a A) = atomFits φ A && not (isTrue? (φ .nodes) (φ .edges) (under (trueIn a)) A)
+passes (judges φ a v) = ranged? φ && (full? (φ .variables) a && eqVerdict (judge φ a) v)
+passes (closes φ a o) = ranged? φ && (assigned? (φ .variables) a && eqOutcome (close (suc (φ .variables)) φ a) o)
+passes (explains φ a A r) = atomFits φ A && eqReason (reason φ a A) r
+passes (finds φ a o b) = ranged? φ && (assigned? (φ .variables) a && (eqOutcome (search (suc (φ .variables)) φ a .outcome) o && eqb (search (suc (φ .variables)) φ a .count) b))
+
+fits-iff : (φ : PlanFile) (a : List ℤ) (A : Atom) → T (atomFits φ A) → T (isTrue? (φ .nodes) (φ .edges) (under (trueIn a)) A) ↔ IsTrue (φ .edges) (under (trueIn a)) A
+fits-iff φ a A t =
+    true-iff (φ .nodes) (φ .edges) (under (trueIn a)) A (λ e m. ranged φ (and-left (ranged? φ) _ t) .edge e m .to-in)
+    (ltb→lt (A .from) (φ .nodes) (and-right (ranged? φ) _ t))
+
+-- a case that passes is so
+pub passed : (c : Case) → T (passes c) → Says c
+passed (is-true φ a A) t = fits-iff φ a A (and-left (atomFits φ A) _ t) .0 (and-right (atomFits φ A) _ t)
+passed (is-false φ a A) t = λ h. T-not (isTrue? (φ .nodes) (φ .edges) (under (trueIn a)) A) (and-right (atomFits φ A) _ t) (fits-iff φ a A (and-left (atomFits φ A) _ t) .1 h)
+passed (judges φ a v) t =
+    let u = and-right (ranged? φ) _ t in
+    subst (λ w. Judged φ a w) (eqVerdict→eq (judge φ a) v (and-right (full? (φ .variables) a) _ u))
+    (judge-is φ (ranged φ (and-left (ranged? φ) _ t)) a (full-is (φ .variables) a (and-left (full? (φ .variables) a) _ u)))
+passed (closes φ a o) t =
+    let u = and-right (ranged? φ) _ t in
+    subst (λ r. CloseIs φ a r) (eqOutcome→eq (close (suc (φ .variables)) φ a) o (and-right (assigned? (φ .variables) a) _ u))
+    (closing-is φ (ranged φ (and-left (ranged? φ) _ t)) a (assigned-is (φ .variables) a (and-left (assigned? (φ .variables) a) _ u)))
+passed (explains φ a A r) t =
+    let u = and-left (atomFits φ A) _ t in
+    subst (λ x. ReasonIs φ a A x) (eqReason→eq (reason φ a A) r (and-right (atomFits φ A) _ t))
+    (reason-is φ a A (ranged φ (and-left (ranged? φ) _ u)) (ltb→lt (A .from) (φ .nodes) (and-right (ranged? φ) _ u)))
+passed (finds φ a o b) t =
+    let u = and-right (ranged? φ) _ t in
+    let w = and-right (assigned? (φ .variables) a) _ u in
+    let p = eqOutcome→eq (search (suc (φ .variables)) φ a .outcome) o (and-left (eqOutcome (search (suc (φ .variables)) φ a .outcome) o) _ w) in
+    let q = eqb→eq (search (suc (φ .variables)) φ a .count) b (and-right (eqOutcome (search (suc (φ .variables)) φ a .outcome) o) _ w) in
+    subst (λ k. Tree φ a o k) q (subst (λ r. Tree φ a r (search (suc (φ .variables)) φ a .count)) p
+    (searching-is φ (ranged φ (and-left (ranged? φ) _ t)) a (assigned-is (φ .variables) a (and-left (assigned? (φ .variables) a) _ u))))
+
+-- the files
+link : ℕ → ℕ → ℕ → Edge
+link f t v = record { from = f; to = t; variable = v }
+
+reaches : ℕ → ℕ → ℕ → Atom
+reaches f t v = record { kind = 1; from = f; to = t; bound = 0; variable = v }
+
+within : ℕ → ℕ → ℕ → ℕ → Atom
+within d f t v = record { kind = 2; from = f; to = t; bound = d; variable = v }
+
+lone : PlanFile
+lone = record { nodes = 1; variables = 1; edges = []; atoms = reaches 0 0 1 ∷ []; clauses = [] }
+
+row : PlanFile
+row = record { nodes = 5; variables = 4; edges = link 0 1 1 ∷ link 1 2 2 ∷ link 2 3 3 ∷ []; atoms = within 3 0 3 4 ∷ []; clauses = [] }
+
+sample : PlanFile
+sample = record {
+  nodes = 3;
+  variables = 5;
+  edges = link 0 1 1 ∷ link 1 2 2 ∷ link 0 2 3 ∷ [];
+  atoms = within 1 0 2 4 ∷ reaches 0 2 5 ∷ [];
+  clauses = (pos 5 ∷ []) ∷ (negsuc 3 ∷ []) ∷ [];
+}
+
+y : ℤ
+y = pos 1
+
+n : ℤ
+n = negsuc 0
+
+o : ℤ
+o = pos 0
+
+-- P1 to P10 in order (P4 has two lines), then the sample's plan with its count B
+pub table : List Case
+table =
+    is-true lone (o ∷ []) (reaches 0 0 1)
+    ∷ is-false row (y ∷ y ∷ y ∷ y ∷ []) (within 0 0 1 4)
+    ∷ is-false row (y ∷ y ∷ y ∷ y ∷ []) (within 255 0 4 4)
+    ∷ is-true row (y ∷ y ∷ y ∷ y ∷ []) (within 3 0 3 4)
+    ∷ is-false row (y ∷ y ∷ y ∷ y ∷ []) (within 2 0 3 4)
+    ∷ judges sample (y ∷ y ∷ n ∷ n ∷ y ∷ []) plan
+    ∷ judges sample (y ∷ y ∷ y ∷ n ∷ y ∷ []) (wrong 1)
+    ∷ closes sample (o ∷ o ∷ o ∷ o ∷ o ∷ []) (found (o ∷ o ∷ o ∷ n ∷ y ∷ []))
+    ∷ closes sample (n ∷ o ∷ n ∷ o ∷ o ∷ []) nothing
+    ∷ explains sample (y ∷ y ∷ o ∷ o ∷ o ∷ []) (reaches 0 2 5) (holds (pos 5 ∷ negsuc 0 ∷ negsuc 1 ∷ []))
+    ∷ explains sample (o ∷ o ∷ n ∷ o ∷ o ∷ []) (within 1 0 2 4) (fails (negsuc 3 ∷ pos 3 ∷ []))
+    ∷ finds sample (o ∷ o ∷ o ∷ o ∷ o ∷ []) (found (y ∷ y ∷ n ∷ n ∷ y ∷ [])) 7
+    ∷ []
+
+pub shown : (c : Case) → List·Memᴰ c table → Says c
+unfolding table lone row sample link reaches within y n o literals next reached isTrueAt? judge close search reason trueIn value add
+shown c m = passed c (all-each passes table tt c m)

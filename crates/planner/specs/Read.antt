@@ -1,0 +1,35 @@
+-- The statement of the public call `read`.
+-- Assumes nothing.
+use mathlib.Core.Path.{_≡_}
+use mathlib.Core.List.{List}
+use Prim.Native.Nat.{ℕ}
+use lib.ListN.{length}
+use Rattle.plan.specs.Meaning.{PlanFile}
+use Rattle.plan.specs.Ranged.{literals}
+use Rattle.plan.specs.declared.Plan.{Plan}
+use Rattle.reader.specs.Format.{readPlan}
+use Rattle.reader.specs.declared.ReadAnswer.{ReadAnswer}
+use Rattle.reader.specs.declared.ReadAnswer.the-variants.{Accepted, Refused}
+use Rattle.planner.specs.Refusing.{Met, refusal, clear, afterReading, Names}
+
+-- How many of each sort the file has.
+pub record Counts (φ : PlanFile) (p : Plan) : Type 0 where
+  pub nodes : φ .nodes ≡ p .nodes
+  pub variables : φ .variables ≡ p .variables
+  pub edges : length (φ .edges) ≡ p .edges
+  pub atoms : length (φ .atoms) ≡ p .atoms
+  pub clauses : length (φ .clauses) ≡ p .clauses
+  pub literals : literals (φ .clauses) ≡ p .literals
+
+-- "answers or refuses": the refusal that is met, or the counts of the file.
+abbrev pub ReadCase : Met → ReadAnswer → Type 0
+ReadCase (refusal n v) (Refused y) = Names n v y
+ReadCase (refusal n v) (Accepted p) = ⊥
+ReadCase (clear φ) (Refused y) = ⊥
+ReadCase (clear φ) (Accepted p) = Counts φ p
+
+unfoldable pub readMet : List ℕ → Met
+readMet file = afterReading (readPlan file) (λ φ. clear φ)
+
+unfoldable pub ReadIs : List ℕ → ReadAnswer → Type 0
+ReadIs file r = ReadCase (readMet file) r

@@ -1,0 +1,15 @@
+use plan::Atom;
+use plan::Clause;
+use plan::Edge;
+use reader::ReadAnswer;
+ghost use Rattle.planner.specs.Read.{ReadIs};
+
+// Reads a plan file: how many of each sort it has, or why it is refused.
+pub fn read(file: &[u8]) -> ReadAnswer
+    ensures { λ r. ⌜ ReadIs (now (file .entry)) r ⌝ }
+{
+    let mut edges = [0u16; Edge::TABLE];
+    let mut atoms = [0u16; Atom::TABLE];
+    let mut clauses = [0i16; Clause::TABLE];
+    reader::read_into(file, &mut edges, &mut atoms, &mut clauses)
+}

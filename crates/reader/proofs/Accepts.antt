@@ -1,0 +1,246 @@
+-- An accepted plan is in range.
+-- Assumes nothing.
+use mathlib.Core.Path.{_≡_, refl, sym, ap, _∙_, subst}
+use mathlib.Core.Logic.{_⊎_, inl, inr, ⊎-elim}
+use mathlib.Core.Bool.{Bool, true, false, not, _&&_, _||_, and-eq-true-iff, false≢true}
+use mathlib.Core.List.{List, [], _∷_, _++_, List·Memᴰ, List·Memᴰ·not-nil, List·Memᴰ·cases-cons, List·Memᴰ·append-cases, List·Memᴰ·eq-of-singleton}
+use Prim.Native.Nat.{ℕ, zero, suc, _+_, _-_, _*_, _/_, _<_, _≤_}
+use native.Mathlib.Omega.{arith}
+use borrow.Author.Tests.{ltb-true, leb-true, eqb-true, eq-eqb, not-true}
+use lib.Dec.{ltb, leb, eqb}
+use lib.IntN.{ℤ, natAbs}
+use lib.ListN.{length, getD}
+use Rattle.plan.specs.Meaning.{Edge, Atom, PlanFile}
+use Rattle.reader.specs.Format.{Step, refuse, next, done, Reading, refused, accepted, check, pick, onward, word, tagAt, lenAt, after, fits, headOk, endsOk, kindOk, literalOk, literalsOk, literalsIn, clauseLen, edgeUses, atomUses, edgeIn, atomIn, clauseIn, addEdge, addAtom, addClause, emptyPlan, edgeAt, atomAt, clauseAt, endAt, tagged, stepAt, headAt, records, readPlan}
+use Rattle.plan.specs.Ranged.{maxBound, literals, EndsFit, LiteralFits, Ranged}
+use Rattle.reader.proofs.Rows.{count-clause, length-snoc, literals-length}
+
+-- the tests, taken apart
+both : (a b : Bool) → (a && b) ≡ true → (a ≡ true) × (b ≡ true)
+both a b h = and-eq-true-iff a b .0 h
+
+either : (a b : Bool) → (a || b) ≡ true → (a ≡ true) ⊎ (b ≡ true)
+either true b h = inl refl
+either false b h = inr h
+
+ends-fit : (n v from to variable : ℕ) → endsOk n v from to variable ≡ true → EndsFit n v from to variable
+unfolding endsOk
+ends-fit n v from to variable h =
+    let a = both (ltb from n && ltb to n) (leb 1 variable && leb variable v) h in
+    let b = both (ltb from n) (ltb to n) (a .0) in
+    let d = both (leb 1 variable) (leb variable v) (a .1) in
+    record { from-in = ltb-true from n (b .0); to-in = ltb-true to n (b .1); low = leb-true 1 variable (d .0); high = leb-true variable v (d .1) }
+
+kind-fits : (k b : ℕ) → kindOk k b ≡ true → ((k ≡ 1) × (b ≡ 0)) ⊎ ((k ≡ 2) × (b ≤ maxBound))
+unfolding kindOk
+kind-fits k b h =
+    ⊎-elim
+    (λ (w : (eqb k 1 && eqb b 0) ≡ true). let q = both (eqb k 1) (eqb b 0) w in inl (eqb-true k 1 (q .0), eqb-true b 0 (q .1)))
+    (λ (w : (eqb k 2 && leb b maxBound) ≡ true). let q = both (eqb k 2) (leb b maxBound) w in inr (eqb-true k 2 (q .0), leb-true b maxBound (q .1)))
+    (either (eqb k 1 && eqb b 0) (eqb k 2 && leb b maxBound) h)
+
+literal-fits : (v : ℕ) (l : ℤ) → literalOk v l ≡ true → LiteralFits v l
+unfolding literalOk
+literal-fits v l h = let d = both (leb 1 (natAbs l)) (leb (natAbs l) v) h in record { low = leb-true 1 (natAbs l) (d .0); high = leb-true (natAbs l) v (d .1) }
+
+literals-fit : (v : ℕ) (c : List ℤ) → literalsOk v c ≡ true → (l : ℤ) → List·Memᴰ l c → LiteralFits v l
+unfolding literalsOk
+literals-fit v [] h l m = absurd (List·Memᴰ·not-nil m)
+literals-fit v (x ∷ c) h l m =
+    let d = both (literalOk v x) (literalsOk v c) h in
+    ⊎-elim (λ (e : l ≡ x). literal-fits v l (ap (literalOk v) e ∙ d .0)) (λ (n : List·Memᴰ l c). literals-fit v c (d .1) l n) (List·Memᴰ·cases-cons m)
+
+-- a use that is denied
+or-left : (a b : Bool) → (a || b) ≡ false → a ≡ false
+or-left true b h = h
+or-left false b h = refl
+
+or-right : (a b : Bool) → (a || b) ≡ false → b ≡ false
+or-right true b h = absurd (false≢true (sym h))
+or-right false b h = h
+
+never : (a b : ℕ) → eqb a b ≡ false → a ≡ b → ⊥
+never a b h e = false≢true (sym h ∙ eq-eqb a b e)
+
+no-edge : (es : List Edge) (v : ℕ) → edgeUses es v ≡ false → (e : Edge) → List·Memᴰ e es → e .variable ≡ v → ⊥
+unfolding edgeUses
+no-edge [] v h e m q = List·Memᴰ·not-nil m
+no-edge (d ∷ es) v h e m q =
+    ⊎-elim (λ (w : e ≡ d). never (d .variable) v (or-left (eqb (d .variable) v) (edgeUses es v) h) (ap (λ (x : Edge). x .variable) (sym w) ∙ q))
+    (λ (n : List·Memᴰ e es). no-edge es v (or-right (eqb (d .variable) v) (edgeUses es v) h) e n q) (List·Memᴰ·cases-cons m)
+
+no-atom : (bs : List Atom) (v : ℕ) → atomUses bs v ≡ false → (a : Atom) → List·Memᴰ a bs → a .variable ≡ v → ⊥
+unfolding atomUses
+no-atom [] v h e m q = List·Memᴰ·not-nil m
+no-atom (d ∷ bs) v h e m q =
+    ⊎-elim (λ (w : e ≡ d). never (d .variable) v (or-left (eqb (d .variable) v) (atomUses bs v) h) (ap (λ (x : Atom). x .variable) (sym w) ∙ q))
+    (λ (n : List·Memᴰ e bs). no-atom bs v (or-right (eqb (d .variable) v) (atomUses bs v) h) e n q) (List·Memᴰ·cases-cons m)
+
+-- a fact of the members, with one more at the end
+snoc : {A : Type 0} (P : A → Type 0) (xs : List A) (x : A) → ((a : A) → List·Memᴰ a xs → P a) → P x → (a : A) → List·Memᴰ a (xs ++ (x ∷ [])) → P a
+snoc P xs x all one a m = ⊎-elim (λ n. all a n) (λ n. subst P (sym (List·Memᴰ·eq-of-singleton n)) one) (List·Memᴰ·append-cases xs m)
+
+module _ (p : PlanFile) (r : Ranged p) where
+  with-edge : (e : Edge) → endsOk (p .nodes) (p .variables) (e .from) (e .to) (e .variable) ≡ true → length (p .edges) < 256 → atomUses (p .atoms) (e .variable) ≡ false → Ranged (addEdge p e)
+  with-edge e ok room free = record {
+    node = r .node;
+    nodes = r .nodes;
+    variable = r .variable;
+    variables = r .variables;
+    edges = omega (arith, length-snoc (p .edges) e);
+    atoms = r .atoms;
+    clauses = r .clauses;
+    literals = r .literals;
+    edge = snoc (λ (x : Edge). EndsFit (p .nodes) (p .variables) (x .from) (x .to) (x .variable)) (p .edges) e (r .edge) (ends-fit _ _ _ _ _ ok);
+    atom = r .atom;
+    kind = r .kind;
+    clause = r .clause;
+    literal = r .literal;
+    apart = snoc (λ (x : Edge). (a : Atom) → List·Memᴰ a (p .atoms) → x .variable ≡ a .variable → ⊥) (p .edges) e (r .apart) (λ a m q. no-atom (p .atoms) (e .variable) free a m (sym q));
+  }
+
+  with-atom : (a : Atom) → (kindOk (a .kind) (a .bound) && endsOk (p .nodes) (p .variables) (a .from) (a .to) (a .variable)) ≡ true → length (p .atoms) < 64 → edgeUses (p .edges) (a .variable) ≡ false → Ranged (addAtom p a)
+  with-atom a ok room free =
+      let d = both (kindOk (a .kind) (a .bound)) (endsOk (p .nodes) (p .variables) (a .from) (a .to) (a .variable)) ok in
+      record {
+        node = r .node;
+        nodes = r .nodes;
+        variable = r .variable;
+        variables = r .variables;
+        edges = r .edges;
+        atoms = omega (arith, length-snoc (p .atoms) a);
+        clauses = r .clauses;
+        literals = r .literals;
+        edge = r .edge;
+        atom = snoc (λ (x : Atom). EndsFit (p .nodes) (p .variables) (x .from) (x .to) (x .variable)) (p .atoms) a (r .atom) (ends-fit _ _ _ _ _ (d .1));
+        kind = snoc (λ (x : Atom). ((x .kind ≡ 1) × (x .bound ≡ 0)) ⊎ ((x .kind ≡ 2) × (x .bound ≤ 255))) (p .atoms) a (r .kind) (kind-fits (a .kind) (a .bound) (d .0));
+        clause = r .clause;
+        literal = r .literal;
+        apart = λ e m. snoc (λ (x : Atom). e .variable ≡ x .variable → ⊥) (p .atoms) a (r .apart e m) (no-edge (p .edges) (a .variable) free e m);
+      }
+
+  with-clause : (c : List ℤ) → 1 ≤ length c → literalsOk (p .variables) c ≡ true → length (p .clauses) < 1024 → literals (p .clauses) + length c ≤ 4096 → Ranged (addClause p c)
+  with-clause c one ok room most = record {
+    node = r .node;
+    nodes = r .nodes;
+    variable = r .variable;
+    variables = r .variables;
+    edges = r .edges;
+    atoms = r .atoms;
+    clauses = omega (arith, length-snoc (p .clauses) c);
+    literals = omega (arith, count-clause (p .clauses) c);
+    edge = r .edge;
+    atom = r .atom;
+    kind = r .kind;
+    clause = snoc (λ (x : List ℤ). 1 ≤ length x) (p .clauses) c (r .clause) one;
+    literal = snoc (λ (x : List ℤ). (l : ℤ) → List·Memᴰ l x → LiteralFits (p .variables) l) (p .clauses) c (r .literal) (literals-fit (p .variables) c ok);
+    apart = r .apart;
+  }
+
+-- what a step, a reading, leads to is in range
+Good : Step → Type 0
+Good (refuse n v) = Unit
+Good (next b p) = Ranged p
+Good (done p) = Ranged p
+
+pub Fine : Reading → Type 0
+Fine (refused n v) = Unit
+Fine (accepted p) = Ranged p
+
+if-held : (b : Bool) (n v : ℕ) (s : Step) → (b ≡ true → Good s) → Good (check b n v s)
+unfolding Good
+if-held true n v s g = g refl
+if-held false n v s g = tt
+
+one-of : (b : Bool) (s u : Step) → Good s → Good u → Good (pick b s u)
+one-of true s u g h = g
+one-of false s u g h = h
+
+module _ (f : List ℕ) (at : ℕ) (p : PlanFile) (r : Ranged p) where
+  edge-good : Good (edgeAt f at p)
+  unfolding Good edgeAt
+  edge-good =
+      if-held (eqb (lenAt f at) 6) _ _ _ (λ l. if-held (endsOk (p .nodes) (p .variables) (word f (at + 3)) (word f (at + 5)) (word f (at + 7))) _ _ _ (λ ok.
+      if-held (ltb (length (p .edges)) 256) _ _ _ (λ room. if-held (not (atomUses (p .atoms) (word f (at + 7)))) _ _ _ (λ free.
+      with-edge p r (edgeIn f at) ok (ltb-true (length (p .edges)) 256 room) (not-true _ free)))))
+
+  atom-good : Good (atomAt f at p)
+  unfolding Good atomAt
+  atom-good =
+      if-held (eqb (lenAt f at) 9) _ _ _ (λ l. if-held (kindOk (getD f (at + 3) 0) (word f (at + 8)) && endsOk (p .nodes) (p .variables) (word f (at + 4)) (word f (at + 6)) (word f (at + 10))) _ _ _ (λ ok.
+      if-held (ltb (length (p .atoms)) 64) _ _ _ (λ room. if-held (not (edgeUses (p .edges) (word f (at + 10)))) _ _ _ (λ free.
+      with-atom p r (atomIn f at) ok (ltb-true (length (p .atoms)) 64 room) (not-true _ free)))))
+
+  long-enough : (n : ℕ) → clauseLen n ≡ true → 1 ≤ n / 2
+  unfolding clauseLen
+  long-enough n h = omega (arith, leb-true 2 n (both (leb 2 n) (eqb (n / 2 * 2) n) h .0))
+
+  clause-good : Good (clauseAt f at p)
+  unfolding Good clauseAt
+  clause-good =
+      if-held (clauseLen (lenAt f at)) _ _ _ (λ l. if-held (literalsOk (p .variables) (clauseIn f at)) _ _ _ (λ ok.
+      if-held (ltb (length (p .clauses)) 1024 && leb (literals (p .clauses) + lenAt f at / 2) 4096) _ _ _ (λ room.
+      let d = both (ltb (length (p .clauses)) 1024) (leb (literals (p .clauses) + lenAt f at / 2) 4096) room in
+      let n = literals-length f (at + 3) (lenAt f at / 2) in
+      with-clause p r (clauseIn f at) (subst (λ (k : ℕ). 1 ≤ k) (sym n) (long-enough (lenAt f at) l)) ok (ltb-true _ _ (d .0))
+      (subst (λ (k : ℕ). literals (p .clauses) + k ≤ 4096) (sym n) (leb-true _ _ (d .1))))))
+
+  end-good : Good (endAt f at p)
+  unfolding Good endAt
+  end-good = if-held (eqb (lenAt f at) 0) _ _ _ (λ l. if-held (eqb (length f) (at + 3)) _ _ _ (λ e. r))
+
+  step-good : Good (stepAt f at p)
+  unfolding Good stepAt
+  step-good =
+      if-held (fits f at) _ _ _ (λ h. if-held (not (eqb (tagAt f at) 1)) _ _ _ (λ n.
+      one-of (eqb (tagAt f at) 2) _ _ edge-good (one-of (eqb (tagAt f at) 3) _ _ atom-good (one-of (eqb (tagAt f at) 4) _ _ clause-good
+      (one-of (eqb (tagAt f at) 5) _ _ end-good tt)))))
+
+on-good : (g : ℕ → PlanFile → Reading) → ((b : ℕ) (p : PlanFile) → Ranged p → Fine (g b p)) → (s : Step) → Good s → Fine (onward g s)
+unfolding Good Fine
+on-good g h (refuse n v) w = tt
+on-good g h (next b p) w = h b p w
+on-good g h (done p) w = w
+
+records-fine : (k : ℕ) (f : List ℕ) (at : ℕ) (p : PlanFile) → Ranged p → Fine (records k f at p)
+unfolding Fine records
+records-fine zero f at p r = tt
+records-fine (suc k) f at p r = on-good (records k f) (λ b q w. records-fine k f b q w) (stepAt f at p) (step-good f at p r)
+
+empty-ranged : (n v : ℕ) → headOk n v ≡ true → Ranged (emptyPlan n v)
+unfolding headOk literals
+empty-ranged n v h =
+    let a = both (leb 1 n && leb n 64 && leb 1 v) (leb v 512) h in
+    let b = both (leb 1 n && leb n 64) (leb 1 v) (a .0) in
+    let d = both (leb 1 n) (leb n 64) (b .0) in
+    record {
+      node = leb-true 1 n (d .0);
+      nodes = leb-true n 64 (d .1);
+      variable = leb-true 1 v (b .1);
+      variables = leb-true v 512 (a .1);
+      edges = omega arith;
+      atoms = omega arith;
+      clauses = omega arith;
+      literals = omega arith;
+      edge = λ e m. absurd (List·Memᴰ·not-nil m);
+      atom = λ e m. absurd (List·Memᴰ·not-nil m);
+      kind = λ e m. absurd (List·Memᴰ·not-nil m);
+      clause = λ e m. absurd (List·Memᴰ·not-nil m);
+      literal = λ e m. absurd (List·Memᴰ·not-nil m);
+      apart = λ e m. absurd (List·Memᴰ·not-nil m);
+    }
+
+head-good : (f : List ℕ) → Good (headAt f)
+unfolding Good headAt
+head-good f =
+    if-held (leb (length f) 16384) _ _ _ (λ a. if-held (fits f 0) _ _ _ (λ b. if-held (eqb (tagAt f 0) 1) _ _ _ (λ d. if-held (eqb (lenAt f 0) 4) _ _ _ (λ e.
+    if-held (headOk (word f 3) (word f 5)) _ _ _ (λ h. empty-ranged (word f 3) (word f 5) h)))))
+
+pub read-fine : (f : List ℕ) → Fine (readPlan f)
+unfolding readPlan
+read-fine f = on-good (records (length f) f) (λ b q w. records-fine (length f) f b q w) (headAt f) (head-good f)
+
+-- an accepted plan is in range
+pub read-ranged : (f : List ℕ) (p : PlanFile) → readPlan f ≡ accepted p → Ranged p
+unfolding Fine
+read-ranged f p e = subst Fine e (read-fine f)

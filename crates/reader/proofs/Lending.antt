@@ -1,0 +1,80 @@
+-- What an accepted file leaves in the tables is what the library lends on: the plan file itself, in range.
+-- Assumes nothing.
+use mathlib.Core.Path.{_≡_, refl, sym, ap, ap₂, _∙_, subst}
+use mathlib.Core.Logic.{_≢_}
+use mathlib.Core.List.{List, [], _∷_, List·Memᴰ}
+use Prim.Native.Nat.{ℕ, zero, suc, _+_, _*_, _≤_}
+use native.Mathlib.Omega.{arith}
+use lib.IntN.{ℤ, pos, natAbs}
+use lib.ListN.{length, take}
+use Rattle.plan.specs.Meaning.{Edge, Atom, PlanFile}
+use Rattle.plan.specs.Ranged.{Ranged, literals}
+use Rattle.plan.specs.Written.{flat}
+use Rattle.plan.specs.Tables.{edgesOf, atomsOf, clausesOf, planOf, Lent}
+use Rattle.plan.specs.declared.Plan as counted
+use Rattle.plan.proofs.Tables.{clauses-back}
+use Rattle.reader.specs.Format.{accepted, readPlan}
+use Rattle.reader.specs.Filling.{flatEdges, flatAtoms, Answers}
+use Rattle.reader.specs.declared.ReadAnswer.{ReadAnswer}
+use Rattle.reader.specs.declared.ReadAnswer.the-variants.{Accepted}
+use Rattle.reader.proofs.Exact.{Given, given}
+
+edges-back : (es : List Edge) → edgesOf (flatEdges es) ≡ es
+unfolding edgesOf flatEdges
+edges-back [] = refl
+edges-back (e ∷ es) = ap (λ l. e ∷ l) (edges-back es)
+
+atoms-back : (bs : List Atom) → atomsOf (flatAtoms bs) ≡ bs
+unfolding atomsOf flatAtoms
+atoms-back [] = refl
+atoms-back (b ∷ bs) = ap (λ l. b ∷ l) (atoms-back bs)
+
+edges-room : (es : List Edge) → length (flatEdges es) ≡ length es * 3
+unfolding flatEdges
+edges-room [] = refl
+edges-room (e ∷ es) = omega (arith, edges-room es)
+
+atoms-room : (bs : List Atom) → length (flatAtoms bs) ≡ length bs * 5
+unfolding flatAtoms
+atoms-room [] = refl
+atoms-room (b ∷ bs) = omega (arith, atoms-room bs)
+
+-- the plan file of the tables' used parts, and what is guaranteed of them
+pub record Lending (f : List ℕ) (c : counted.Plan) (es bs : List ℕ) (cs : List ℤ) : Type 0 where
+  pub reads : readPlan f ≡ accepted (planOf c (take (c .edges * 3) es) (take (c .atoms * 5) bs) (take (c .literals + c .clauses) cs))
+  pub lent : Lent c (take (c .edges * 3) es) (take (c .atoms * 5) bs) (take (c .literals + c .clauses) cs)
+
+module _ (f : List ℕ) (c : counted.Plan) (es bs : List ℕ) (cs : List ℤ) (g : Given f c es bs cs) where
+  not-zero : (C : List ℤ) → List·Memᴰ C (g .plan .clauses) → (l : ℤ) → List·Memᴰ l C → l ≢ pos 0
+  not-zero C m l k e = let z : natAbs l ≡ 0 = ap natAbs e in omega (arith, g .ranged .literal C m l k .low)
+
+  edges-are : edgesOf (take (c .edges * 3) es) ≡ g .plan .edges
+  edges-are = ap edgesOf (g .tables .edgeRows) ∙ edges-back (g .plan .edges)
+
+  atoms-are : atomsOf (take (c .atoms * 5) bs) ≡ g .plan .atoms
+  atoms-are = ap atomsOf (g .tables .atomRows) ∙ atoms-back (g .plan .atoms)
+
+  clauses-are : clausesOf (take (c .literals + c .clauses) cs) ≡ g .plan .clauses
+  clauses-are = ap clausesOf (g .tables .clauseRows) ∙ clauses-back (g .plan .clauses) not-zero
+
+  same : planOf c (take (c .edges * 3) es) (take (c .atoms * 5) bs) (take (c .literals + c .clauses) cs) ≡ g .plan
+  same =
+      let n : c .nodes ≡ g .plan .nodes = sym (g .tables .nodes) in
+      let v : c .variables ≡ g .plan .variables = sym (g .tables .variables) in
+      λ i. record { nodes = n i; variables = v i; edges = edges-are i; atoms = atoms-are i; clauses = clauses-are i }
+
+  lending-of : Lending f c es bs cs
+  lending-of = record {
+    reads = g .reads ∙ ap accepted (sym same);
+    lent = record {
+      ranged = subst Ranged (sym same) (g .ranged);
+      edges = ap length (g .tables .edgeRows) ∙ edges-room (g .plan .edges) ∙ ap (λ n. n * 3) (g .tables .edges);
+      atoms = ap length (g .tables .atomRows) ∙ atoms-room (g .plan .atoms) ∙ ap (λ n. n * 5) (g .tables .atoms);
+      clauses = ap length clauses-are ∙ g .tables .clauses;
+      literals = ap literals clauses-are ∙ g .tables .literals;
+      ended = ap flat clauses-are ∙ sym (g .tables .clauseRows);
+    };
+  }
+
+pub lending : (f : List ℕ) (a : ReadAnswer) (c : counted.Plan) (es bs : List ℕ) (cs : List ℤ) → Answers (readPlan f) a es bs cs → a ≡ Accepted c → Lending f c es bs cs
+lending f a c es bs cs h e = lending-of f c es bs cs (given f a c es bs cs h e)

@@ -1,0 +1,189 @@
+-- The plan file: what a file reads as. Document 01, "PlanFile file" and "Numbers given on refusal", 1 to 8.
+-- Assumes nothing.
+use Prim.Native.Nat.{ℕ, zero, suc, _+_, _-_, _*_, _/_}
+use mathlib.Core.Bool.{Bool, true, false, not, _&&_, _||_}
+use mathlib.Core.List.{List, [], _∷_, _++_}
+use lib.Dec.{ltb, leb, eqb}
+use lib.IntN.{ℤ, pos, negsuc, natAbs}
+use lib.ListN.{length, getD}
+use Rattle.plan.specs.Meaning.{Edge, Atom, PlanFile}
+use Rattle.plan.specs.Ranged.{maxBytes, maxNodes, maxVariables, maxEdges, maxAtoms, maxBound, maxClauses, maxLiterals, literals}
+
+-- what a record leads to: a refusal with its number and returned value, the plan so far with the next record's offset, or the whole plan
+pub data Step : Type 0 where
+  refuse : ℕ → ℕ → Step
+  next : ℕ → PlanFile → Step
+  done : PlanFile → Step
+
+pub data Reading : Type 0 where
+  refused : ℕ → ℕ → Reading
+  accepted : PlanFile → Reading
+
+abbrev pub pick : Bool → Step → Step → Step
+pick true a b = a
+pick false a b = b
+
+-- goes on if the test holds, else refuses with that number and value
+abbrev pub check : Bool → ℕ → ℕ → Step → Step
+check b n v s = pick b s (refuse n v)
+
+-- 16 bits as a signed number
+abbrev pub pickZ : Bool → ℤ → ℤ → ℤ
+pickZ true a b = a
+pickZ false a b = b
+
+abbrev pub twos : ℕ → ℤ
+twos x = pickZ (ltb x 32768) (pos x) (negsuc (65535 - x))
+
+-- two bytes at i, high byte first; a record's tag, value length, value's offset, next record's offset
+abbrev pub word : List ℕ → ℕ → ℕ
+word f i = getD f i 0 * 256 + getD f (i + 1) 0
+
+abbrev pub tagAt : List ℕ → ℕ → ℕ
+tagAt f at = getD f at 0
+
+abbrev pub lenAt : List ℕ → ℕ → ℕ
+lenAt f at = word f (at + 1)
+
+abbrev pub after : List ℕ → ℕ → ℕ
+after f at = at + 3 + lenAt f at
+
+-- there is room for the record's 3 head bytes, and for its value
+unfoldable pub fits : List ℕ → ℕ → Bool
+fits f at = leb (at + 3) (length f) && leb (after f at) (length f)
+
+-- ranges
+abbrev pub variableOk : ℕ → ℕ → Bool
+variableOk variables v = leb 1 v && leb v variables
+
+unfoldable pub headOk : ℕ → ℕ → Bool
+headOk nodes variables = leb 1 nodes && leb nodes maxNodes && leb 1 variables && leb variables maxVariables
+
+unfoldable pub endsOk : ℕ → ℕ → ℕ → ℕ → ℕ → Bool
+endsOk nodes variables from to variable = ltb from nodes && ltb to nodes && variableOk variables variable
+
+abbrev pub edgeOk : ℕ → ℕ → Edge → Bool
+edgeOk nodes variables e = endsOk nodes variables (e .from) (e .to) (e .variable)
+
+-- kind 1 has bound 0, kind 2 a bound of 0 to 255
+unfoldable pub kindOk : ℕ → ℕ → Bool
+kindOk kind bound = (eqb kind 1 && eqb bound 0) || (eqb kind 2 && leb bound maxBound)
+
+abbrev pub atomOk : ℕ → ℕ → Atom → Bool
+atomOk nodes variables a = kindOk (a .kind) (a .bound) && endsOk nodes variables (a .from) (a .to) (a .variable)
+
+unfoldable pub literalOk : ℕ → ℤ → Bool
+literalOk variables l = variableOk variables (natAbs l)
+
+unfoldable pub literalsOk : ℕ → List ℤ → Bool
+literalsOk variables [] = true
+literalsOk variables (l ∷ ls) = literalOk variables l && literalsOk variables ls
+
+-- the variable serves an edge, an atom
+unfoldable pub edgeUses : List Edge → ℕ → Bool
+edgeUses [] v = false
+edgeUses (e ∷ es) v = eqb (e .variable) v || edgeUses es v
+
+unfoldable pub atomUses : List Atom → ℕ → Bool
+atomUses [] v = false
+atomUses (a ∷ bs) v = eqb (a .variable) v || atomUses bs v
+
+-- the values of records at an offset
+abbrev pub edgeIn : List ℕ → ℕ → Edge
+edgeIn f at = record { from = word f (at + 3); to = word f (at + 5); variable = word f (at + 7) }
+
+abbrev pub atomIn : List ℕ → ℕ → Atom
+atomIn f at = record { kind = getD f (at + 3) 0; from = word f (at + 4); to = word f (at + 6); bound = word f (at + 8); variable = word f (at + 10) }
+
+-- n literals from i on
+unfoldable pub literalsIn : List ℕ → ℕ → ℕ → List ℤ
+literalsIn f i zero = []
+literalsIn f i (suc n) = twos (word f i) ∷ literalsIn f (i + 2) n
+
+-- one more of a sort
+abbrev pub addEdge : PlanFile → Edge → PlanFile
+addEdge p e = record { nodes = p .nodes; variables = p .variables; edges = p .edges ++ (e ∷ []); atoms = p .atoms; clauses = p .clauses }
+
+abbrev pub addAtom : PlanFile → Atom → PlanFile
+addAtom p a = record { nodes = p .nodes; variables = p .variables; edges = p .edges; atoms = p .atoms ++ (a ∷ []); clauses = p .clauses }
+
+abbrev pub addClause : PlanFile → List ℤ → PlanFile
+addClause p c = record { nodes = p .nodes; variables = p .variables; edges = p .edges; atoms = p .atoms; clauses = p .clauses ++ (c ∷ []) }
+
+abbrev pub emptyPlan : ℕ → ℕ → PlanFile
+emptyPlan nodes variables = record { nodes = nodes; variables = variables; edges = []; atoms = []; clauses = [] }
+
+-- the records, each with its checks in the order of the refusals' numbers
+unfoldable pub edgeAt : List ℕ → ℕ → PlanFile → Step
+edgeAt f at p =
+    check (eqb (lenAt f at) 6) 5 at
+    (check (edgeOk (p .nodes) (p .variables) (edgeIn f at)) 6 at
+    (check (ltb (length (p .edges)) maxEdges) 7 at
+    (check (not (atomUses (p .atoms) (edgeIn f at .variable))) 8 at
+    (next (after f at) (addEdge p (edgeIn f at))))))
+
+unfoldable pub atomAt : List ℕ → ℕ → PlanFile → Step
+atomAt f at p =
+    check (eqb (lenAt f at) 9) 5 at
+    (check (atomOk (p .nodes) (p .variables) (atomIn f at)) 6 at
+    (check (ltb (length (p .atoms)) maxAtoms) 7 at
+    (check (not (edgeUses (p .edges) (atomIn f at .variable))) 8 at
+    (next (after f at) (addAtom p (atomIn f at))))))
+
+-- even, at least 2
+unfoldable pub clauseLen : ℕ → Bool
+clauseLen n = leb 2 n && eqb (n / 2 * 2) n
+
+abbrev pub clauseIn : List ℕ → ℕ → List ℤ
+clauseIn f at = literalsIn f (at + 3) (lenAt f at / 2)
+
+unfoldable pub clauseAt : List ℕ → ℕ → PlanFile → Step
+clauseAt f at p =
+    check (clauseLen (lenAt f at)) 5 at
+    (check (literalsOk (p .variables) (clauseIn f at)) 6 at
+    (check (ltb (length (p .clauses)) maxClauses && leb (literals (p .clauses) + lenAt f at / 2) maxLiterals) 7 at
+    (next (after f at) (addClause p (clauseIn f at)))))
+
+-- no byte may follow the end record
+unfoldable pub endAt : List ℕ → ℕ → PlanFile → Step
+endAt f at p =
+    check (eqb (lenAt f at) 0) 5 at
+    (check (eqb (length f) (at + 3)) 3 (at + 3)
+    (done p))
+
+-- a record behind the head, by its tag
+abbrev pub tagged : ℕ → List ℕ → ℕ → PlanFile → Step
+tagged tag f at p =
+    check (not (eqb tag 1)) 3 at
+    (pick (eqb tag 2) (edgeAt f at p)
+    (pick (eqb tag 3) (atomAt f at p)
+    (pick (eqb tag 4) (clauseAt f at p)
+    (pick (eqb tag 5) (endAt f at p)
+    (refuse 4 at)))))
+
+unfoldable pub stepAt : List ℕ → ℕ → PlanFile → Step
+stepAt f at p = check (fits f at) 2 at (tagged (tagAt f at) f at p)
+
+-- the first record
+unfoldable pub headAt : List ℕ → Step
+headAt f =
+    check (leb (length f) maxBytes) 1 0
+    (check (fits f 0) 2 0
+    (check (eqb (tagAt f 0) 1) 3 0
+    (check (eqb (lenAt f 0) 4) 5 0
+    (check (headOk (word f 3) (word f 5)) 6 0
+    (next 7 (emptyPlan (word f 3) (word f 5)))))))
+
+-- where a step leads: a refusal and a whole plan are the reading, and from the next record on g reads
+abbrev pub onward : (ℕ → PlanFile → Reading) → Step → Reading
+onward g (refuse n v) = refused n v
+onward g (next at p) = g at p
+onward g (done p) = accepted p
+
+-- record by record, from an offset on. A record has at least 3 bytes, so the file's length is more turns than are met
+unfoldable pub records : ℕ → List ℕ → ℕ → PlanFile → Reading
+records zero f at p = refused 2 at
+records (suc k) f at p = onward (records k f) (stepAt f at p)
+
+unfoldable pub readPlan : List ℕ → Reading
+readPlan f = onward (records (length f) f) (headAt f)
