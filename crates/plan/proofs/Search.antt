@@ -27,7 +27,7 @@ agrees c q h j (inr (inl e)) n = e ∙ sym (off-one (getD q j (pos 0)) (h (negsu
 agrees c q h j (inr (inr e)) n = absurd (n e)
 
 -- closing is one assignment, the lowest open variable is one
-closes-unique : (φ : PlanFile) (a a′ c c′ : List ℤ) → a ≡ a′ → Closes φ a c → Closes φ a′ c′ → c ≡ c′
+pub closes-unique : (φ : PlanFile) (a a′ c c′ : List ℤ) → a ≡ a′ → Closes φ a c → Closes φ a′ c′ → c ≡ c′
 closes-unique φ a a′ c c′ e x y =
     same-set (φ .variables) c c′ (x .shape) (y .shape)
     (closing-unique φ (trueIn a) (trueIn c) (trueIn c′) (x .closed .closing) (subst (λ z. Closing φ (trueIn z) (trueIn c′)) (sym e) (y .closed .closing)))

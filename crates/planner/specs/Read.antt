@@ -21,15 +21,14 @@ pub record Counts (φ : PlanFile) (p : Plan) : Type 0 where
   pub clauses : length (φ .clauses) ≡ p .clauses
   pub literals : literals (φ .clauses) ≡ p .literals
 
--- "answers or refuses": the refusal that is met, or the counts of the file.
+unfoldable pub readMet : List ℕ → Met
+readMet file = afterReading (readPlan file) (λ φ. clear φ)
+
 abbrev pub ReadCase : Met → ReadAnswer → Type 0
 ReadCase (refusal n v) (Refused y) = Names n v y
 ReadCase (refusal n v) (Accepted p) = ⊥
 ReadCase (clear φ) (Refused y) = ⊥
 ReadCase (clear φ) (Accepted p) = Counts φ p
-
-unfoldable pub readMet : List ℕ → Met
-readMet file = afterReading (readPlan file) (λ φ. clear φ)
 
 unfoldable pub ReadIs : List ℕ → ReadAnswer → Type 0
 ReadIs file r = ReadCase (readMet file) r

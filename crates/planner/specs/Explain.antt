@@ -1,0 +1,42 @@
+-- The statement of the public call `reason`: its answer, and the output buffer before and after.
+-- Assumes nothing.
+use mathlib.Core.Path.{_≡_}
+use mathlib.Core.Logic.{_⊎_}
+use mathlib.Core.List.{List}
+use Prim.Native.Nat.{ℕ, _-_, _≤_, _<_}
+use lib.ListN.{length}
+use lib.IntN.{ℤ}
+use Rattle.plan.specs.Meaning.{PlanFile, Atom, atom}
+use Rattle.plan.specs.Reason.{Reason, holds, fails, neither, ReasonIs}
+use Rattle.reader.specs.Format.{readPlan}
+use Rattle.planner.specs.declared.ReasonAnswer.{ReasonAnswer}
+use Rattle.planner.specs.declared.ReasonAnswer.the-variants.{Refused, Holds, Fails, Open}
+use Rattle.planner.specs.Refusing.{Met, refusal, clear, afterReading, requireLength, requireValues, requireAtom, isValue, Names, Kept, Wrote}
+
+abbrev pub reasonChecks : List ℤ → ℕ → PlanFile → Met
+reasonChecks a k φ = requireLength φ a (requireValues isValue a (requireAtom φ k (clear φ)))
+
+unfoldable pub reasonMet : List ℕ → List ℤ → ℕ → Met
+reasonMet file a k = afterReading (readPlan file) (reasonChecks a k)
+
+-- The clause is written, and its length answered.
+pub record Given (clause before after : List ℤ) (n : ℕ) : Type 0 where
+  pub counted : n ≡ length clause
+  pub fits : length clause ≤ length before
+  pub wrote : Wrote clause before after
+
+abbrev pub ReasonCase : Met → List ℤ → ℕ → List ℤ → List ℤ → ReasonAnswer → Type 0
+ReasonCase (refusal n v) a k before after (Refused y) = Names n v y × Kept before after
+ReasonCase (refusal n v) a k before after (Holds c) = ⊥
+ReasonCase (refusal n v) a k before after (Fails c) = ⊥
+ReasonCase (refusal n v) a k before after Open = ⊥
+-- "12: output buffer too short for the exact answer; length needed"
+ReasonCase (clear φ) a k before after (Refused y) =
+    (r : List ℤ) × (ReasonIs φ a (atom (φ .atoms) (k - 1)) (holds r) ⊎ ReasonIs φ a (atom (φ .atoms) (k - 1)) (fails r))
+    × (length before < length r) × Names 12 (length r) y × Kept before after
+ReasonCase (clear φ) a k before after (Holds n) = (r : List ℤ) × ReasonIs φ a (atom (φ .atoms) (k - 1)) (holds r) × Given r before after n
+ReasonCase (clear φ) a k before after (Fails n) = (r : List ℤ) × ReasonIs φ a (atom (φ .atoms) (k - 1)) (fails r) × Given r before after n
+ReasonCase (clear φ) a k before after Open = ReasonIs φ a (atom (φ .atoms) (k - 1)) neither × Kept before after
+
+unfoldable pub ExplainedIs : List ℕ → List ℤ → ℕ → List ℤ → List ℤ → ReasonAnswer → Type 0
+ExplainedIs file a k before after r = ReasonCase (reasonMet file a k) a k before after r
