@@ -43,6 +43,11 @@ isOpen (negsuc n) = false
 abbrev pub isValue : ℤ → Bool
 isValue x = isSet x || isOpen x
 
+-- the values that are taken, with 0 or without
+abbrev pub taken : Bool → ℤ → Bool
+taken true = isValue
+taken false = isSet
+
 -- "the first such place, from 0"; the length where there is none
 unfoldable pub firstNot : (ℤ → Bool) → List ℤ → ℕ
 firstNot ok [] = zero

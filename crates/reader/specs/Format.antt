@@ -9,7 +9,7 @@ use lib.ListN.{length, getD}
 use Rattle.plan.specs.Meaning.{Edge, Atom, PlanFile}
 use Rattle.plan.specs.Ranged.{maxBytes, maxNodes, maxVariables, maxEdges, maxAtoms, maxBound, maxClauses, maxLiterals, literals}
 
--- what a record leads to: a refusal with its number and returned value, the plan so far with the next record's offset, or the whole plan
+-- What a record leads to: a refusal with its number and returned value, the plan file so far with the next record's offset, or the whole.
 pub data Step : Type 0 where
   refuse : ℕ → ℕ → Step
   next : ℕ → PlanFile → Step
@@ -23,11 +23,16 @@ abbrev pub pick : Bool → Step → Step → Step
 pick true a b = a
 pick false a b = b
 
--- goes on if the test holds, else refuses with that number and value
+-- Goes on if the test holds, else refuses with that number and value.
 abbrev pub check : Bool → ℕ → ℕ → Step → Step
 check b n v s = pick b s (refuse n v)
 
--- 16 bits as a signed number
+-- "5: value length not allowed. 6: field or literal out of range. 7: one too many of its sort, or literals above 4,096. 8: variable used by
+-- edge and atom", each at the record's offset: "record by record, .. then 2 to 8. The first met is returned."
+abbrev pub inOrder : Bool → Bool → Bool → Bool → ℕ → Step → Step
+inOrder long ranged room apart at s = check long 5 at (check ranged 6 at (check room 7 at (check apart 8 at s)))
+
+-- "literals, 16-bit two's complement"
 abbrev pub pickZ : Bool → ℤ → ℤ → ℤ
 pickZ true a b = a
 pickZ false a b = b
@@ -35,7 +40,8 @@ pickZ false a b = b
 abbrev pub twos : ℕ → ℤ
 twos x = pickZ (ltb x 32768) (pos x) (negsuc (65535 - x))
 
--- two bytes at i, high byte first; a record's tag, value length, value's offset, next record's offset
+-- "All numbers are high byte first." Two bytes at i; then, of the record at an offset, "a tag (1 byte), a value length (2 bytes, high byte first)
+-- and the value": its tag, its value length, the next record's offset. The value stands at the offset plus 3.
 abbrev pub word : List ℕ → ℕ → ℕ
 word f i = getD f i 0 * 256 + getD f (i + 1) 0
 
@@ -48,11 +54,11 @@ lenAt f at = word f (at + 1)
 abbrev pub after : List ℕ → ℕ → ℕ
 after f at = at + 3 + lenAt f at
 
--- there is room for the record's 3 head bytes, and for its value
+-- "2: no room for a record's 3 head bytes, or its value runs past the end"
 unfoldable pub fits : List ℕ → ℕ → Bool
 fits f at = leb (at + 3) (length f) && leb (after f at) (length f)
 
--- ranges
+-- "Ranges: nodes 1 to 64, numbered from 0; variables 1 to 512, numbered from 1"
 abbrev pub variableOk : ℕ → ℕ → Bool
 variableOk variables v = leb 1 v && leb v variables
 
@@ -65,13 +71,14 @@ endsOk nodes variables from to variable = ltb from nodes && ltb to nodes && vari
 abbrev pub edgeOk : ℕ → ℕ → Edge → Bool
 edgeOk nodes variables e = endsOk nodes variables (e .from) (e .to) (e .variable)
 
--- kind 1 has bound 0, kind 2 a bound of 0 to 255
+-- "Kind 1 is 'reaches', bound 0. Kind 2 is 'within', bound 0 to 255."
 unfoldable pub kindOk : ℕ → ℕ → Bool
 kindOk kind bound = (eqb kind 1 && eqb bound 0) || (eqb kind 2 && leb bound maxBound)
 
 abbrev pub atomOk : ℕ → ℕ → Atom → Bool
 atomOk nodes variables a = kindOk (a .kind) (a .bound) && endsOk nodes variables (a .from) (a .to) (a .variable)
 
+-- "A literal is a variable's number, negative for off, and never 0; -32,768 .. is out of range like any other below minus the variable count."
 unfoldable pub literalOk : ℕ → ℤ → Bool
 literalOk variables l = variableOk variables (natAbs l)
 
@@ -79,7 +86,7 @@ unfoldable pub literalsOk : ℕ → List ℤ → Bool
 literalsOk variables [] = true
 literalsOk variables (l ∷ ls) = literalOk variables l && literalsOk variables ls
 
--- the variable serves an edge, an atom
+-- "A variable may not serve an edge and an atom."
 unfoldable pub edgeUses : List Edge → ℕ → Bool
 edgeUses [] v = false
 edgeUses (e ∷ es) v = eqb (e .variable) v || edgeUses es v
@@ -88,7 +95,8 @@ unfoldable pub atomUses : List Atom → ℕ → Bool
 atomUses [] v = false
 atomUses (a ∷ bs) v = eqb (a .variable) v || atomUses bs v
 
--- the values of records at an offset
+-- "2 edge: from, to, variable (u16 each). 3 atom: kind (u8), from, to, bound, variable (u16 each). 4 clause: literals": the values of the record
+-- at an offset
 abbrev pub edgeIn : List ℕ → ℕ → Edge
 edgeIn f at = record { from = word f (at + 3); to = word f (at + 5); variable = word f (at + 7) }
 
@@ -113,24 +121,18 @@ addClause p c = record { nodes = p .nodes; variables = p .variables; edges = p .
 abbrev pub emptyPlan : ℕ → ℕ → PlanFile
 emptyPlan nodes variables = record { nodes = nodes; variables = variables; edges = []; atoms = []; clauses = [] }
 
--- the records, each with its checks in the order of the refusals' numbers
+-- the records, each with its checks
 unfoldable pub edgeAt : List ℕ → ℕ → PlanFile → Step
 edgeAt f at p =
-    check (eqb (lenAt f at) 6) 5 at
-    (check (edgeOk (p .nodes) (p .variables) (edgeIn f at)) 6 at
-    (check (ltb (length (p .edges)) maxEdges) 7 at
-    (check (not (atomUses (p .atoms) (edgeIn f at .variable))) 8 at
-    (next (after f at) (addEdge p (edgeIn f at))))))
+    inOrder (eqb (lenAt f at) 6) (edgeOk (p .nodes) (p .variables) (edgeIn f at)) (ltb (length (p .edges)) maxEdges) (not (atomUses (p .atoms) (edgeIn f at .variable))) at
+    (next (after f at) (addEdge p (edgeIn f at)))
 
 unfoldable pub atomAt : List ℕ → ℕ → PlanFile → Step
 atomAt f at p =
-    check (eqb (lenAt f at) 9) 5 at
-    (check (atomOk (p .nodes) (p .variables) (atomIn f at)) 6 at
-    (check (ltb (length (p .atoms)) maxAtoms) 7 at
-    (check (not (edgeUses (p .edges) (atomIn f at .variable))) 8 at
-    (next (after f at) (addAtom p (atomIn f at))))))
+    inOrder (eqb (lenAt f at) 9) (atomOk (p .nodes) (p .variables) (atomIn f at)) (ltb (length (p .atoms)) maxAtoms) (not (edgeUses (p .edges) (atomIn f at .variable))) at
+    (next (after f at) (addAtom p (atomIn f at)))
 
--- even, at least 2
+-- "even, at least 2"; "An empty clause is malformed."
 unfoldable pub clauseLen : ℕ → Bool
 clauseLen n = leb 2 n && eqb (n / 2 * 2) n
 
@@ -139,19 +141,18 @@ clauseIn f at = literalsIn f (at + 3) (lenAt f at / 2)
 
 unfoldable pub clauseAt : List ℕ → ℕ → PlanFile → Step
 clauseAt f at p =
-    check (clauseLen (lenAt f at)) 5 at
-    (check (literalsOk (p .variables) (clauseIn f at)) 6 at
-    (check (ltb (length (p .clauses)) maxClauses && leb (literals (p .clauses) + lenAt f at / 2) maxLiterals) 7 at
-    (next (after f at) (addClause p (clauseIn f at)))))
+    inOrder (clauseLen (lenAt f at)) (literalsOk (p .variables) (clauseIn f at))
+    (ltb (length (p .clauses)) maxClauses && leb (literals (p .clauses) + lenAt f at / 2) maxLiterals) true at
+    (next (after f at) (addClause p (clauseIn f at)))
 
--- no byte may follow the end record
+-- "The end record is last": a byte after it is looked at before anything else, "3: .. a byte after the end record; its offset"
 unfoldable pub endAt : List ℕ → ℕ → PlanFile → Step
 endAt f at p =
     check (eqb (lenAt f at) 0) 5 at
     (check (eqb (length f) (at + 3)) 3 (at + 3)
     (done p))
 
--- a record behind the head, by its tag
+-- A record behind the head, by its tag. "3: .. a later tag 1"; "4: unknown tag".
 abbrev pub tagged : ℕ → List ℕ → ℕ → PlanFile → Step
 tagged tag f at p =
     check (not (eqb tag 1)) 3 at
@@ -164,7 +165,7 @@ tagged tag f at p =
 unfoldable pub stepAt : List ℕ → ℕ → PlanFile → Step
 stepAt f at p = check (fits f at) 2 at (tagged (tagAt f at) f at p)
 
--- the first record
+-- "The head is first": 1, then 2, 3, 5, 6 of the first record. "3: first tag not 1".
 unfoldable pub headAt : List ℕ → Step
 headAt f =
     check (leb (length f) maxBytes) 1 0
@@ -174,13 +175,13 @@ headAt f =
     (check (headOk (word f 3) (word f 5)) 6 0
     (next 7 (emptyPlan (word f 3) (word f 5)))))))
 
--- where a step leads: a refusal and a whole plan are the reading, and from the next record on g reads
+-- Where a step leads: a refusal and the whole plan file are the reading, and from the next record on g reads.
 abbrev pub onward : (ℕ → PlanFile → Reading) → Step → Reading
 onward g (refuse n v) = refused n v
 onward g (next at p) = g at p
 onward g (done p) = accepted p
 
--- record by record, from an offset on. A record has at least 3 bytes, so the file's length is more turns than are met
+-- Record by record, from an offset on. A record has at least 3 bytes, so the file's length is more turns than are met (proofs/Exact: `enough`).
 unfoldable pub records : ℕ → List ℕ → ℕ → PlanFile → Reading
 records zero f at p = refused 2 at
 records (suc k) f at p = onward (records k f) (stepAt f at p)
