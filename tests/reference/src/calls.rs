@@ -15,7 +15,14 @@ use crate::search::{self, Outcome};
 /// What a call answers. The names are those of the lines that `linkcalls` prints.
 #[derive(Clone, Copy, Debug, PartialEq, Eq)]
 pub enum Answer {
-    Accepted { nodes: usize, variables: usize, edges: usize, atoms: usize, clauses: usize, literals: usize },
+    Accepted {
+        nodes: usize,
+        variables: usize,
+        edges: usize,
+        atoms: usize,
+        clauses: usize,
+        literals: usize,
+    },
     Judged(Judgement),
     Closed,
     Clash,
@@ -25,7 +32,11 @@ pub enum Answer {
     Plan(u32),
     Impossible(u32),
     Undecided(u32),
-    Written { variables: usize, clauses: usize, numbers: usize },
+    Written {
+        variables: usize,
+        clauses: usize,
+        numbers: usize,
+    },
     Refused(Refusal),
 }
 
@@ -129,7 +140,10 @@ fn check_length(plan: &PlanFile, length: usize) -> Checked<()> {
     if length == plan.variables {
         Ok(())
     } else {
-        Err(Refusal { number: 9, value: plan.variables })
+        Err(Refusal {
+            number: 9,
+            value: plan.variables,
+        })
     }
 }
 
@@ -137,7 +151,10 @@ fn check_length(plan: &PlanFile, length: usize) -> Checked<()> {
 fn check_values(assignment: &[i8], allowed: &[i8]) -> Checked<()> {
     match assignment.iter().position(|value| !allowed.contains(value)) {
         None => Ok(()),
-        Some(place) => Err(Refusal { number: 10, value: place }),
+        Some(place) => Err(Refusal {
+            number: 10,
+            value: place,
+        }),
     }
 }
 
@@ -147,7 +164,10 @@ fn check_atom(plan: &PlanFile, atom: usize) -> Checked<()> {
     if (1..=count).contains(&atom) {
         Ok(())
     } else {
-        Err(Refusal { number: 11, value: count })
+        Err(Refusal {
+            number: 11,
+            value: count,
+        })
     }
 }
 
@@ -156,7 +176,10 @@ fn check_room(room: usize, needed: usize) -> Checked<()> {
     if needed <= room {
         Ok(())
     } else {
-        Err(Refusal { number: 12, value: needed })
+        Err(Refusal {
+            number: 12,
+            value: needed,
+        })
     }
 }
 

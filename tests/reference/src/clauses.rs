@@ -43,7 +43,10 @@ pub fn counts(plan: &PlanFile) -> Counts {
 }
 
 pub fn write(plan: &PlanFile) -> Written {
-    let mut out = Written { variables: plan.variables, ..Written::default() };
+    let mut out = Written {
+        variables: plan.variables,
+        ..Written::default()
+    };
     for clause in &plan.clauses {
         let literals: Vec<i32> = clause.iter().map(|&literal| literal.into()).collect();
         out.clause(&literals);
@@ -75,7 +78,10 @@ fn name_variables(plan: &PlanFile, last_level: usize, out: &mut Written) -> Name
         out.variables += count;
         (first..first + count as i32).collect()
     };
-    let mut names = Names { r: Vec::new(), t: Vec::new() };
+    let mut names = Names {
+        r: Vec::new(),
+        t: Vec::new(),
+    };
     for i in 0..=last_level {
         names.r.push(fresh(plan.nodes));
         if i < last_level {

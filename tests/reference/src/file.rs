@@ -116,7 +116,11 @@ fn next_record(bytes: &[u8], offset: usize) -> Result<Record<'_>, Refusal> {
     }
     let length = usize::from(u16::from_be_bytes([rest[1], rest[2]]));
     match rest[RECORD_HEAD..].get(..length) {
-        Some(value) => Ok(Record { offset, tag: rest[0], value }),
+        Some(value) => Ok(Record {
+            offset,
+            tag: rest[0],
+            value,
+        }),
         None => refuse(2, offset),
     }
 }
@@ -188,7 +192,10 @@ fn take_edge(plan: &mut PlanFile, record: &Record) -> Result<(), u32> {
     check(edge.from < plan.nodes && edge.to < plan.nodes, 6)?;
     check((1..=plan.variables).contains(&edge.variable), 6)?;
     check(plan.edges.len() < EDGES, 7)?;
-    check(plan.atoms.iter().all(|atom| atom.variable != edge.variable), 8)?;
+    check(
+        plan.atoms.iter().all(|atom| atom.variable != edge.variable),
+        8,
+    )?;
     plan.edges.push(edge);
     Ok(())
 }
@@ -209,7 +216,10 @@ fn take_atom(plan: &mut PlanFile, record: &Record) -> Result<(), u32> {
     check(atom.from < plan.nodes && atom.to < plan.nodes, 6)?;
     check((1..=plan.variables).contains(&atom.variable), 6)?;
     check(plan.atoms.len() < ATOMS, 7)?;
-    check(plan.edges.iter().all(|edge| edge.variable != atom.variable), 8)?;
+    check(
+        plan.edges.iter().all(|edge| edge.variable != atom.variable),
+        8,
+    )?;
     plan.atoms.push(atom);
     Ok(())
 }
@@ -219,9 +229,8 @@ fn take_clause(plan: &mut PlanFile, record: &Record) -> Result<(), u32> {
         .map(|k| record.field(0, k) as u16 as i16)
         .collect();
     // unsigned_abs: -32,768 has no opposite, and is out of range like any other.
-    let in_range = |&literal: &i16| {
-        (1..=plan.variables).contains(&usize::from(literal.unsigned_abs()))
-    };
+    let in_range =
+        |&literal: &i16| (1..=plan.variables).contains(&usize::from(literal.unsigned_abs()));
     check(clause.iter().all(in_range), 6)?;
     check(plan.clauses.len() < CLAUSES, 7)?;
     check(plan.literals() + clause.len() <= LITERALS, 7)?;

@@ -15,7 +15,11 @@ pub enum Judgement {
 /// `values` has no open variable, so the under graph is the graph of all on-edges.
 pub fn judge(plan: &PlanFile, values: &[i8]) -> Judgement {
     let is_true = |literal: &i16| literal_value(values, *literal) == ON;
-    if let Some(k) = plan.clauses.iter().position(|clause| !clause.iter().any(is_true)) {
+    if let Some(k) = plan
+        .clauses
+        .iter()
+        .position(|clause| !clause.iter().any(is_true))
+    {
         return Judgement::Clause(k + 1);
     }
     let wrong = plan.atoms.iter().position(|atom| {

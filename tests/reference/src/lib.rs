@@ -21,6 +21,7 @@ pub mod protocol;
 // Second opinions.
 pub mod brute;
 pub mod sat;
+pub mod written;
 
 // Files and requests to try.
 pub mod generate;

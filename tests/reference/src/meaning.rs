@@ -48,7 +48,11 @@ pub type Neighbours = Vec<Vec<usize>>;
 
 pub fn neighbours(plan: &PlanFile, graph: Graph, values: &[i8]) -> Neighbours {
     let mut next = vec![Vec::new(); plan.nodes];
-    for edge in plan.edges.iter().filter(|edge| has_edge(graph, values, edge)) {
+    for edge in plan
+        .edges
+        .iter()
+        .filter(|edge| has_edge(graph, values, edge))
+    {
         next[edge.from].push(edge.to);
     }
     next

@@ -13,7 +13,10 @@ pub fn linkplan(file: &[u8]) -> String {
     let mut result = vec![0; variables];
     match calls::search(file, BUDGET, &mut result) {
         Answer::Plan(branchings) => {
-            format!("s SATISFIABLE\n{}c branchings {branchings}\n", plan_line(&result))
+            format!(
+                "s SATISFIABLE\n{}c branchings {branchings}\n",
+                plan_line(&result)
+            )
         }
         Answer::Impossible(branchings) => {
             format!("s UNSATISFIABLE\nc branchings {branchings}\n")

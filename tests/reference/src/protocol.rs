@@ -32,7 +32,11 @@ pub struct Request {
 
 impl Request {
     pub fn read(file: Vec<u8>) -> Request {
-        Request { call: READ, file, ..Request::default() }
+        Request {
+            call: READ,
+            file,
+            ..Request::default()
+        }
     }
 
     pub fn to_bytes(&self) -> Vec<u8> {
@@ -65,7 +69,11 @@ impl<'a> Rest<'a> {
 
     fn number(&mut self, bytes: usize) -> Option<usize> {
         let taken = self.take(bytes)?;
-        Some(taken.iter().fold(0, |sum, &byte| sum << 8 | usize::from(byte)))
+        Some(
+            taken
+                .iter()
+                .fold(0, |sum, &byte| sum << 8 | usize::from(byte)),
+        )
     }
 
     /// `None` where the request is cut off or asks for more than it may.
@@ -79,7 +87,14 @@ impl<'a> Rest<'a> {
         let budget = self.number(4)? as u32;
         let room = self.number(2).filter(|&room| room <= MOST_ROOM)? as u16;
         let known = (READ..=WRITE_CLAUSES).contains(&call);
-        known.then_some(Request { call, file, assignment, atom, budget, room })
+        known.then_some(Request {
+            call,
+            file,
+            assignment,
+            atom,
+            budget,
+            room,
+        })
     }
 }
 
@@ -153,7 +168,14 @@ fn places<T: Display>(buffer: &[T]) -> String {
 
 pub fn text(answer: Answer) -> String {
     match answer {
-        Answer::Accepted { nodes, variables, edges, atoms, clauses, literals } => {
+        Answer::Accepted {
+            nodes,
+            variables,
+            edges,
+            atoms,
+            clauses,
+            literals,
+        } => {
             format!("accepted {nodes} {variables} {edges} {atoms} {clauses} {literals}")
         }
         Answer::Judged(Judgement::Plan) => "plan".into(),
@@ -167,7 +189,11 @@ pub fn text(answer: Answer) -> String {
         Answer::Plan(branchings) => format!("plan {branchings}"),
         Answer::Impossible(branchings) => format!("impossible {branchings}"),
         Answer::Undecided(branchings) => format!("undecided {branchings}"),
-        Answer::Written { variables, clauses, numbers } => {
+        Answer::Written {
+            variables,
+            clauses,
+            numbers,
+        } => {
             format!("written {variables} {clauses} {numbers}")
         }
         Answer::Refused(refusal) => format!("refused {} {}", refusal.number, refusal.value),

@@ -15,11 +15,11 @@ impl Random {
     /// can be made again without the parts before it.
     pub fn part(seed: u64, number: u64) -> Random {
         let mut mixed = Random::new(seed);
-        let base = mixed.next();
+        let base = mixed.number();
         Random::new(base ^ number.wrapping_mul(0xD6E8_FEB8_6659_FD93))
     }
 
-    pub fn next(&mut self) -> u64 {
+    pub fn number(&mut self) -> u64 {
         self.state = self.state.wrapping_add(0x9E37_79B9_7F4A_7C15);
         let mut mixed = self.state;
         mixed = (mixed ^ (mixed >> 30)).wrapping_mul(0xBF58_476D_1CE4_E5B9);
@@ -30,7 +30,7 @@ impl Random {
     /// A number from 0 to `count` - 1.
     pub fn below(&mut self, count: usize) -> usize {
         assert!(count > 0, "there is no number below 0");
-        (self.next() % count as u64) as usize
+        (self.number() % count as u64) as usize
     }
 
     /// A number from `least` to `most`, both included.

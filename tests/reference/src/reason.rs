@@ -1,9 +1,7 @@
 //! Document 01, "Judging and reasons": the reason for one atom.
 
 use crate::file::{Atom, Kind, PlanFile};
-use crate::meaning::{
-    has_edge, hops, literal, value, verdict, Graph, Hops, Verdict, OFF, ON,
-};
+use crate::meaning::{has_edge, hops, literal, value, verdict, Graph, Hops, Verdict, OFF, ON};
 use std::collections::BTreeSet;
 
 #[derive(Clone, Debug, PartialEq, Eq)]

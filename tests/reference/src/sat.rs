@@ -49,9 +49,16 @@ pub fn solve(variables: usize, clauses: &[Vec<i32>]) -> Option<Vec<bool>> {
 
 /// The clauses of a list whose clauses each end in 0.
 pub fn clauses_of(numbers: &[i32]) -> Vec<Vec<i32>> {
-    let mut clauses: Vec<Vec<i32>> = numbers.split(|&number| number == 0).map(Vec::from).collect();
+    let mut clauses: Vec<Vec<i32>> = numbers
+        .split(|&number| number == 0)
+        .map(Vec::from)
+        .collect();
     let behind_the_last = clauses.pop();
-    assert_eq!(behind_the_last, Some(Vec::new()), "the last clause has no 0");
+    assert_eq!(
+        behind_the_last,
+        Some(Vec::new()),
+        "the last clause has no 0"
+    );
     clauses
 }
 
@@ -208,7 +215,9 @@ impl Solver {
             return (learned, 0);
         }
         let level = |k: &usize| self.levels[var(learned[*k])];
-        let second = (1..learned.len()).max_by_key(level).expect("there is a second");
+        let second = (1..learned.len())
+            .max_by_key(level)
+            .expect("there is a second");
         learned.swap(1, second);
         let back = self.levels[var(learned[1])];
         (learned, back)
@@ -242,7 +251,9 @@ impl Solver {
     fn decay(&mut self) {
         self.bump *= 1.05;
         if self.bump > 1e100 {
-            self.activities.iter_mut().for_each(|activity| *activity *= 1e-100);
+            self.activities
+                .iter_mut()
+                .for_each(|activity| *activity *= 1e-100);
             self.bump *= 1e-100;
         }
     }
@@ -277,6 +288,8 @@ impl Solver {
     }
 
     fn model(&self) -> Vec<bool> {
-        (0..self.levels.len()).map(|v| self.values[2 * v] == Value::True).collect()
+        (0..self.levels.len())
+            .map(|v| self.values[2 * v] == Value::True)
+            .collect()
     }
 }

@@ -19,9 +19,16 @@ pub struct Searched {
 
 /// Undecided exactly if the search without a budget counts more branchings than `budget`.
 pub fn search(plan: &PlanFile, budget: u32) -> Searched {
-    let mut search = Search { plan, budget, branchings: 0 };
+    let mut search = Search {
+        plan,
+        budget,
+        branchings: 0,
+    };
     let outcome = search.settle(&vec![OPEN; plan.variables]);
-    Searched { outcome, branchings: search.branchings }
+    Searched {
+        outcome,
+        branchings: search.branchings,
+    }
 }
 
 struct Search<'a> {

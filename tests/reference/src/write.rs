@@ -17,7 +17,10 @@ pub fn record_of_length(tag: u8, length: u16, value: &[u8]) -> Vec<u8> {
 }
 
 fn fields(values: &[usize]) -> Vec<u8> {
-    values.iter().flat_map(|&value| (value as u16).to_be_bytes()).collect()
+    values
+        .iter()
+        .flat_map(|&value| (value as u16).to_be_bytes())
+        .collect()
 }
 
 pub fn head(nodes: usize, variables: usize) -> Vec<u8> {
@@ -35,7 +38,10 @@ pub fn atom(kind: u8, from: usize, to: usize, bound: usize, variable: usize) -> 
 }
 
 pub fn clause(literals: &[i16]) -> Vec<u8> {
-    let value: Vec<u8> = literals.iter().flat_map(|literal| literal.to_be_bytes()).collect();
+    let value: Vec<u8> = literals
+        .iter()
+        .flat_map(|literal| literal.to_be_bytes())
+        .collect();
     record(CLAUSE, &value)
 }
 
@@ -59,7 +65,10 @@ fn middle(plan: &PlanFile) -> [Vec<Vec<u8>>; 3] {
     [
         plan.edges.iter().map(edge_record).collect(),
         plan.atoms.iter().map(atom_record).collect(),
-        plan.clauses.iter().map(|literals| clause(literals)).collect(),
+        plan.clauses
+            .iter()
+            .map(|literals| clause(literals))
+            .collect(),
     ]
 }
 
@@ -78,10 +87,15 @@ pub fn records(plan: &PlanFile) -> Vec<Vec<u8>> {
 /// The file's records, the three sorts mixed, each sort in its own order.
 pub fn mixed_records(plan: &PlanFile, random: &mut Random) -> Vec<Vec<u8>> {
     let sorts = middle(plan);
-    let mut turns: Vec<usize> = (0..3).flat_map(|sort| vec![sort; sorts[sort].len()]).collect();
+    let mut turns: Vec<usize> = (0..3)
+        .flat_map(|sort| vec![sort; sorts[sort].len()])
+        .collect();
     random.shuffle(&mut turns);
     let mut queues = sorts.map(Vec::into_iter);
-    framed(plan, turns.into_iter().filter_map(|sort| queues[sort].next()))
+    framed(
+        plan,
+        turns.into_iter().filter_map(|sort| queues[sort].next()),
+    )
 }
 
 pub fn to_bytes(plan: &PlanFile) -> Vec<u8> {

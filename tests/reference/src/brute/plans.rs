@@ -6,7 +6,10 @@ use crate::file::{Edge, PlanFile};
 /// All assignments, off before on, the lowest variable counting most.
 pub fn assignments(variables: usize) -> impl Iterator<Item = Vec<i8>> {
     (0..1u32 << variables).map(move |mask| {
-        (0..variables).rev().map(|bit| if mask >> bit & 1 == 1 { 1 } else { -1 }).collect()
+        (0..variables)
+            .rev()
+            .map(|bit| if mask >> bit & 1 == 1 { 1 } else { -1 })
+            .collect()
     })
 }
 
@@ -25,7 +28,9 @@ pub fn clause_is_true(values: &[i8], clause: &[i16]) -> bool {
 }
 
 pub fn is_plan(plan: &PlanFile, values: &[i8]) -> bool {
-    plan.clauses.iter().all(|clause| clause_is_true(values, clause))
+    plan.clauses
+        .iter()
+        .all(|clause| clause_is_true(values, clause))
         && (1..=plan.atoms.len()).all(|number| atom_is_right(plan, values, number))
 }
 

@@ -52,7 +52,10 @@ fn piece(rest: &[u8]) -> Piece<'_> {
 /// The two-byte numbers of a value, without its kind byte if it has one.
 fn numbers(tag: u8, value: &[u8]) -> Vec<usize> {
     let value = if tag == 3 { &value[1..] } else { value };
-    value.chunks(2).map(|two| usize::from(two[0]) * 256 + usize::from(two[1])).collect()
+    value
+        .chunks(2)
+        .map(|two| usize::from(two[0]) * 256 + usize::from(two[1]))
+        .collect()
 }
 
 fn length_allowed(tag: u8, length: usize) -> bool {
@@ -134,7 +137,11 @@ fn wrong_contents(tag: u8, value: &[u8], before: &[(usize, Piece)]) -> Vec<u32> 
         wrongs.push(7);
     }
     let last = |numbers: Vec<usize>| numbers[numbers.len() - 1];
-    let mine = last(if value.is_empty() { vec![0] } else { numbers(tag, value) });
+    let mine = last(if value.is_empty() {
+        vec![0]
+    } else {
+        numbers(tag, value)
+    });
     if tag == 2 && of_tag(3).any(|atom| last(atom) == mine)
         || tag == 3 && of_tag(2).any(|edge| last(edge) == mine)
     {
@@ -145,13 +152,19 @@ fn wrong_contents(tag: u8, value: &[u8], before: &[(usize, Piece)]) -> Vec<u32> 
 
 pub fn read(bytes: &[u8]) -> Result<Counts, Refusal> {
     if bytes.len() >= 16_385 {
-        return Err(Refusal { number: 1, value: 0 });
+        return Err(Refusal {
+            number: 1,
+            value: 0,
+        });
     }
     let pieces = pieces(bytes);
     for count in 1..=pieces.len() {
         let upto = &pieces[..count];
         if let Some(&number) = wrongs(upto).iter().min() {
-            return Err(Refusal { number, value: upto[count - 1].0 });
+            return Err(Refusal {
+                number,
+                value: upto[count - 1].0,
+            });
         }
     }
     Ok(counts(&pieces))

@@ -21,13 +21,16 @@ pub fn verdict(plan: &PlanFile, values: &[i8], atom: &Atom) -> Verdict {
 }
 
 fn fillings(values: &[i8]) -> impl Iterator<Item = Vec<i8>> + '_ {
-    let fits = |full: &Vec<i8>| full.iter().zip(values).all(|(f, &v)| v == 0 || *f == v);
+    let fits = move |full: &Vec<i8>| full.iter().zip(values).all(|(f, &v)| v == 0 || *f == v);
     plans::assignments(values.len()).filter(fits)
 }
 
 pub fn holds_clause(plan: &PlanFile, values: &[i8], atom: &Atom) -> Vec<i16> {
     let path = first_path_back(plan, values, atom);
-    let variables = path.iter().map(|&number| plan.edges[number].variable).collect();
+    let variables = path
+        .iter()
+        .map(|&number| plan.edges[number].variable)
+        .collect();
     with_premises(atom.variable as i16, variables, -1)
 }
 
@@ -45,7 +48,13 @@ fn first_path_back(plan: &PlanFile, values: &[i8], atom: &Atom) -> Vec<usize> {
 }
 
 /// All edge sequences of a length from s to t over on-edges, the last edge first.
-fn paths_back(plan: &PlanFile, values: &[i8], s: usize, t: usize, length: usize) -> Vec<Vec<usize>> {
+fn paths_back(
+    plan: &PlanFile,
+    values: &[i8],
+    s: usize,
+    t: usize,
+    length: usize,
+) -> Vec<Vec<usize>> {
     if length == 0 {
         return if s == t { vec![Vec::new()] } else { Vec::new() };
     }

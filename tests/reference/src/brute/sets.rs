@@ -55,7 +55,9 @@ fn is_false(set: Set, literal: i16) -> bool {
 /// the clause is a clash in both readings, and this one keeps intersections closed.
 fn obeys_clause(set: Set, clause: &[i16]) -> bool {
     clause.iter().all(|&one| {
-        let others_false = clause.iter().all(|&other| other == one || is_false(set, other));
+        let others_false = clause
+            .iter()
+            .all(|&other| other == one || is_false(set, other));
         !others_false || set & of_literal(one) != 0
     })
 }

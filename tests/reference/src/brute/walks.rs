@@ -6,7 +6,9 @@ use crate::file::{Atom, Edge, Kind};
 pub type Matrix = Vec<Vec<bool>>;
 
 pub fn identity(nodes: usize) -> Matrix {
-    (0..nodes).map(|s| (0..nodes).map(|t| s == t).collect()).collect()
+    (0..nodes)
+        .map(|s| (0..nodes).map(|t| s == t).collect())
+        .collect()
 }
 
 /// One step over the edges that are wanted.
@@ -21,7 +23,9 @@ pub fn step(nodes: usize, edges: &[Edge], wanted: &dyn Fn(&Edge) -> bool) -> Mat
 fn product(a: &Matrix, b: &Matrix) -> Matrix {
     let nodes = a.len();
     let place = |s: usize, t: usize| (0..nodes).any(|via| a[s][via] && b[via][t]);
-    (0..nodes).map(|s| (0..nodes).map(|t| place(s, t)).collect()).collect()
+    (0..nodes)
+        .map(|s| (0..nodes).map(|t| place(s, t)).collect())
+        .collect()
 }
 
 /// The powers 0 to nodes - 1: a fewest-hops path repeats no node.
@@ -43,5 +47,8 @@ pub fn truth(powers: &[Matrix], atom: &Atom) -> bool {
         Kind::Reaches => powers.len(),
         Kind::Within(bound) => bound + 1,
     };
-    powers.iter().take(most).any(|power| power[atom.from][atom.to])
+    powers
+        .iter()
+        .take(most)
+        .any(|power| power[atom.from][atom.to])
 }

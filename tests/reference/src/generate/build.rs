@@ -5,7 +5,10 @@ use crate::random::Random;
 
 impl PlanFile {
     pub fn with_nodes(nodes: usize) -> PlanFile {
-        PlanFile { nodes, ..PlanFile::default() }
+        PlanFile {
+            nodes,
+            ..PlanFile::default()
+        }
     }
 
     /// The number of a new variable.
@@ -33,7 +36,12 @@ impl PlanFile {
     }
 
     pub fn atom_of(&mut self, kind: Kind, from: usize, to: usize, variable: usize) {
-        self.atoms.push(Atom { kind, from, to, variable });
+        self.atoms.push(Atom {
+            kind,
+            from,
+            to,
+            variable,
+        });
     }
 
     fn atom(&mut self, kind: Kind, from: usize, to: usize) -> usize {
@@ -53,11 +61,17 @@ impl PlanFile {
     }
 
     pub fn one_of(&mut self, variables: &[usize]) {
-        self.clauses.push(variables.iter().map(|&variable| variable as i16).collect());
+        self.clauses
+            .push(variables.iter().map(|&variable| variable as i16).collect());
     }
 
     pub fn not_all(&mut self, variables: &[usize]) {
-        self.clauses.push(variables.iter().map(|&variable| -(variable as i16)).collect());
+        self.clauses.push(
+            variables
+                .iter()
+                .map(|&variable| -(variable as i16))
+                .collect(),
+        );
     }
 
     pub fn must(&mut self, variable: usize) {
@@ -93,8 +107,12 @@ impl PlanFile {
         random.shuffle(&mut order);
         let new = |variable: usize| order[variable - 1];
         let mut plan = self.clone();
-        plan.edges.iter_mut().for_each(|edge| edge.variable = new(edge.variable));
-        plan.atoms.iter_mut().for_each(|atom| atom.variable = new(atom.variable));
+        plan.edges
+            .iter_mut()
+            .for_each(|edge| edge.variable = new(edge.variable));
+        plan.atoms
+            .iter_mut()
+            .for_each(|atom| atom.variable = new(atom.variable));
         for literal in plan.clauses.iter_mut().flatten() {
             *literal = new(literal.unsigned_abs().into()) as i16 * literal.signum();
         }

@@ -1,6 +1,7 @@
 //! Damaged files: a good file with one to three things done to it.
 
 use super::{metro, scattered};
+use crate::file::{ATOM, EDGE};
 use crate::random::Random;
 use crate::write;
 
@@ -29,7 +30,7 @@ pub fn damaged(random: &mut Random) -> Vec<u8> {
 
 /// Damage that knows where the bytes of a file stand, but not what they mean.
 fn damage_bytes(bytes: &mut Vec<u8>, random: &mut Random) {
-    let any = random.next() as u8;
+    let any = random.number() as u8;
     match random.below(6) {
         0 => bytes.truncate(random.below(bytes.len() + 1)),
         1 => {
@@ -58,13 +59,13 @@ fn damage_records(records: &mut Vec<Vec<u8>>, random: &mut Random) {
         return;
     }
     let at = random.below(records.len());
-    match random.below(9) {
+    match random.below(11) {
         0 => records[at][0] = random.pick(&[0, 1, 2, 3, 4, 5, 6, 7, 128, 255]),
         1 => {
             let off_by = random.pick(&[1, 2, 255, 254]);
             records[at][2] = records[at][2].wrapping_add(off_by);
         }
-        2 => {
+        2 if records[at].len() > 3 => {
             records[at][2] = records[at][2].wrapping_sub(1);
             records[at].pop();
         }
@@ -83,13 +84,33 @@ fn damage_records(records: &mut Vec<Vec<u8>>, random: &mut Random) {
             let other = random.below(records.len());
             records.swap(at, other);
         }
+        7 | 8 => share_variable(records, random),
         _ => damage_field(&mut records[at], random),
     }
 }
 
+/// Gives an atom an edge's variable or an edge an atom's, where there are both.
+fn share_variable(records: &mut [Vec<u8>], random: &mut Random) {
+    let of_tag = |tag: u8| -> Vec<usize> {
+        (0..records.len())
+            .filter(|&k| records[k][0] == tag && records[k].len() > 5)
+            .collect()
+    };
+    let (edges, atoms) = (of_tag(EDGE), of_tag(ATOM));
+    if edges.is_empty() || atoms.is_empty() {
+        return;
+    }
+    let (edge, atom) = (random.pick(&edges), random.pick(&atoms));
+    let (giver, taker) = random.pick(&[(edge, atom), (atom, edge)]);
+    let variable = records[giver].split_off(records[giver].len() - 2);
+    records[giver].extend(&variable);
+    let place = records[taker].len() - 2;
+    records[taker][place..].copy_from_slice(&variable);
+}
+
 /// Sets a two-byte field of a value to something at or past the end of a range.
 fn damage_field(record: &mut [u8], random: &mut Random) {
-    let value = record.len() - 3;
+    let value = record.len().saturating_sub(3);
     if value < 2 {
         return;
     }
@@ -100,7 +121,9 @@ fn damage_field(record: &mut [u8], random: &mut Random) {
         return;
     }
     let place = start + 2 * random.below(value / 2);
-    let ends = [0, 1, 63, 64, 255, 256, 512, 513, 32_767, 32_768, 65_535, 65_023];
+    let ends = [
+        0, 1, 63, 64, 255, 256, 512, 513, 32_767, 32_768, 65_535, 65_023,
+    ];
     let field: u16 = random.pick(&ends);
     record[place..place + 2].copy_from_slice(&field.to_be_bytes());
 }

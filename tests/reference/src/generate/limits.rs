@@ -1,8 +1,9 @@
-//! Files at each limit and one past it, with random contents.
+//! Files at each limit and one past it, with random contents. Now and then the
+//! last record of its sort has another fault too, for the order of the two.
 
 use super::scattered::literal;
 use crate::file::{
-    PlanFile, ATOMS, BOUND, CLAUSES, EDGES, FILE_BYTES, LITERALS, NODES, VARIABLES,
+    Kind, PlanFile, ATOMS, BOUND, CLAUSES, EDGES, FILE_BYTES, LITERALS, NODES, VARIABLES,
 };
 use crate::random::Random;
 use crate::write;
@@ -14,12 +15,35 @@ pub fn limit(random: &mut Random) -> Vec<u8> {
         0 => write::to_bytes(&full(random)),
         1 => with_nodes(NODES + past, random),
         2 => with_variables(VARIABLES + past, random),
-        3 => write::to_bytes(&with_edges(EDGES + past, random)),
-        4 => write::to_bytes(&with_atoms(ATOMS + past, random)),
-        5 => write::to_bytes(&with_clauses(CLAUSES + past, random)),
-        6 => write::to_bytes(&with_literals(LITERALS + past, random)),
+        3 => faulty(with_edges(EDGES + past, random), random),
+        4 => faulty(with_atoms(ATOMS + past, random), random),
+        5 => faulty(with_clauses(CLAUSES + past, random), random),
+        6 => faulty(with_literals(LITERALS + past, random), random),
         7 => with_bound(BOUND + past, random),
         _ => with_bytes(FILE_BYTES + past, random),
+    }
+}
+
+/// The bytes of a file, one time in four with a second fault: a field out of
+/// range, or a variable for an edge and an atom.
+fn faulty(mut plan: PlanFile, random: &mut Random) -> Vec<u8> {
+    let (nodes, variables) = (plan.nodes, plan.variables);
+    if random.chance(25) {
+        let shared = plan.edges.first().map_or(1, |edge| edge.variable);
+        if let Some(atom) = plan.atoms.last_mut() {
+            atom.variable = random.pick(&[shared, variables + 1]);
+        }
+        if let Some(edge) = plan.edges.last_mut() {
+            edge.to = random.pick(&[edge.to, nodes]);
+        }
+        if let Some(literal) = plan.clauses.last_mut().and_then(|clause| clause.last_mut()) {
+            *literal = random.pick(&[0, variables as i16 + 1, i16::MIN]);
+        }
+    }
+    if random.chance(50) {
+        write::mixed_records(&plan, random).concat()
+    } else {
+        write::to_bytes(&plan)
     }
 }
 
@@ -78,7 +102,9 @@ fn with_clauses(clauses: usize, random: &mut Random) -> PlanFile {
     plan.variables = random.between(4, VARIABLES);
     for _ in 0..clauses {
         let length = random.between(1, 3);
-        let clause = (0..length).map(|_| literal(plan.variables, random)).collect();
+        let clause = (0..length)
+            .map(|_| literal(plan.variables, random))
+            .collect();
         plan.clauses.push(clause);
     }
     plan
@@ -91,8 +117,14 @@ fn with_literals(literals: usize, random: &mut Random) -> PlanFile {
     let mut left = literals;
     while left > 0 {
         let most = random.pick(&[8, 40, 1_000, LITERALS + 1]);
-        let length = if left <= 8 { left } else { random.between(8, most.max(8)).min(left) };
-        let clause = (0..length).map(|_| literal(plan.variables, random)).collect();
+        let length = if left <= 8 {
+            left
+        } else {
+            random.between(8, most.max(8)).min(left)
+        };
+        let clause = (0..length)
+            .map(|_| literal(plan.variables, random))
+            .collect();
         plan.clauses.push(clause);
         left -= length;
     }
@@ -123,14 +155,21 @@ pub fn full(random: &mut Random) -> PlanFile {
     }
     for k in 0..ATOMS {
         let kind = if random.chance(50) {
-            crate::file::Kind::Reaches
+            Kind::Reaches
         } else {
-            crate::file::Kind::Within(random.below(8))
+            Kind::Within(random.below(8))
         };
-        plan.atom_of(kind, random.below(NODES), random.below(NODES), EDGES + k + 1);
+        plan.atom_of(
+            kind,
+            random.below(NODES),
+            random.below(NODES),
+            EDGES + k + 1,
+        );
     }
     for _ in 0..CLAUSES {
-        let clause = (0..LITERALS / CLAUSES).map(|_| literal(VARIABLES, random)).collect();
+        let clause = (0..LITERALS / CLAUSES)
+            .map(|_| literal(VARIABLES, random))
+            .collect();
         plan.clauses.push(clause);
     }
     plan

@@ -22,7 +22,9 @@ pub fn metro(random: &mut Random) -> PlanFile {
 /// The links of a ring over some nodes.
 fn ring_links(plan: &mut PlanFile, nodes: &[usize]) -> Vec<usize> {
     let next = |k: usize| nodes[(k + 1) % nodes.len()];
-    (0..nodes.len()).map(|k| plan.link(nodes[k], next(k))).collect()
+    (0..nodes.len())
+        .map(|k| plan.link(nodes[k], next(k)))
+        .collect()
 }
 
 /// A ring with a hub: each site has to be near the hub, one link stays dark,
@@ -116,7 +118,11 @@ pub fn apart(sites: usize, random: &mut Random) -> PlanFile {
     let (mine, theirs) = (0, 1);
     let split = random.between(2, sites - 1);
     for site in 2..sites {
-        let (home, away) = if site < split { (mine, theirs) } else { (theirs, mine) };
+        let (home, away) = if site < split {
+            (mine, theirs)
+        } else {
+            (theirs, mine)
+        };
         if random.chance(60) {
             let home = plan.reaches(home, site);
             plan.must(home);

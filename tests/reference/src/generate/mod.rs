@@ -6,6 +6,7 @@ pub mod limits;
 pub mod metro;
 pub mod requests;
 pub mod scattered;
+pub mod survey;
 
 use crate::file::PlanFile;
 use crate::random::Random;
@@ -15,6 +16,7 @@ use crate::write;
 #[derive(Clone, Copy, Debug, PartialEq, Eq)]
 pub enum Sort {
     Small,
+    Tight,
     Medium,
     NoPath,
     Shared,
@@ -23,8 +25,9 @@ pub enum Sort {
     Damaged,
 }
 
-pub const SORTS: [Sort; 7] = [
+pub const SORTS: [Sort; 8] = [
     Sort::Small,
+    Sort::Tight,
     Sort::Medium,
     Sort::NoPath,
     Sort::Shared,
@@ -36,12 +39,13 @@ pub const SORTS: [Sort; 7] = [
 /// Mostly small files, since they try the most cases in a second.
 pub fn sort(random: &mut Random) -> Sort {
     match random.below(100) {
-        0..=34 => Sort::Small,
-        35..=44 => Sort::Medium,
+        0..=19 => Sort::Small,
+        20..=36 => Sort::Tight,
+        37..=44 => Sort::Medium,
         45..=51 => Sort::NoPath,
         52..=61 => Sort::Shared,
-        62..=76 => Sort::Metro,
-        77..=80 => Sort::Limit,
+        62..=78 => Sort::Metro,
+        79..=82 => Sort::Limit,
         _ => Sort::Damaged,
     }
 }
@@ -50,6 +54,7 @@ pub fn sort(random: &mut Random) -> Sort {
 pub fn file(sort: Sort, random: &mut Random) -> Vec<u8> {
     match sort {
         Sort::Small => mixed(&scattered::small(random), random),
+        Sort::Tight => mixed(&scattered::tight(random), random),
         Sort::Medium => mixed(&scattered::medium(random), random),
         Sort::NoPath => mixed(&scattered::no_path(random), random),
         Sort::Shared => mixed(&scattered::shared(random), random),

@@ -13,15 +13,65 @@ struct Size {
     clause_length: usize,
 }
 
-const SMALL: Size =
-    Size { nodes: 6, variables: 9, edges: 10, atoms: 4, clauses: 8, clause_length: 4 };
-const MEDIUM: Size =
-    Size { nodes: 14, variables: 34, edges: 34, atoms: 8, clauses: 40, clause_length: 5 };
+const TINY: Size = Size {
+    nodes: 5,
+    variables: 5,
+    edges: 7,
+    atoms: 3,
+    clauses: 4,
+    clause_length: 3,
+};
+const SMALL: Size = Size {
+    nodes: 6,
+    variables: 9,
+    edges: 10,
+    atoms: 4,
+    clauses: 8,
+    clause_length: 4,
+};
+const MEDIUM: Size = Size {
+    nodes: 14,
+    variables: 34,
+    edges: 34,
+    atoms: 8,
+    clauses: 40,
+    clause_length: 5,
+};
 
 /// Small enough for the brute-force opinion.
 pub fn tiny(random: &mut Random) -> PlanFile {
-    let size = Size { nodes: 5, variables: 5, edges: 7, atoms: 3, clauses: 4, clause_length: 3 };
-    scattered(&size, random)
+    if random.chance(60) {
+        scattered(&TINY, random)
+    } else {
+        tight_of(random.between(2, 6), random)
+    }
+}
+
+/// No clauses of one literal, and about as many of two to four as leave it open
+/// whether there is a plan, so that the search has to branch to find out.
+pub fn tight(random: &mut Random) -> PlanFile {
+    tight_of(random.between(6, 24), random)
+}
+
+fn tight_of(variables: usize, random: &mut Random) -> PlanFile {
+    let mut plan = PlanFile::with_nodes(random.between(2, 6));
+    plan.variables = variables;
+    let roles = roles(variables, random);
+    let edges = random.between(roles.edges.len(), 3 * variables);
+    add_edges(&mut plan, &roles, edges, random);
+    // An atom from a node to itself, or two that share a variable, would end most
+    // searches at once.
+    for &variable in &roles.atoms {
+        let from = random.below(plan.nodes);
+        let to = (from + random.between(1, plan.nodes - 1)) % plan.nodes;
+        plan.atom_of(kind(plan.nodes, random), from, to, variable);
+    }
+    let clauses = random.between(2 * variables, 9 * variables / 2);
+    for _ in 0..clauses {
+        let length = random.pick(&[2, 3, 3, 3, 3, 3, 4, 5]);
+        add_clause(&mut plan, length, random);
+    }
+    plan
 }
 
 pub fn small(random: &mut Random) -> PlanFile {
@@ -40,7 +90,10 @@ struct Roles {
 
 /// Low numbers go to either role as often as high ones.
 fn roles(variables: usize, random: &mut Random) -> Roles {
-    let mut roles = Roles { edges: Vec::new(), atoms: Vec::new() };
+    let mut roles = Roles {
+        edges: Vec::new(),
+        atoms: Vec::new(),
+    };
     for variable in 1..=variables {
         match random.below(10) {
             0..=5 => roles.edges.push(variable),
@@ -59,7 +112,12 @@ fn scattered(size: &Size, random: &mut Random) -> PlanFile {
     add_atoms(&mut plan, &roles, random.between(0, size.atoms), random);
     let clauses = random.between(0, size.clauses);
     for _ in 0..clauses {
-        add_clause(&mut plan, random.between(1, size.clause_length), random);
+        let shortest = if random.chance(15) { 1 } else { 2 };
+        add_clause(
+            &mut plan,
+            random.between(shortest, size.clause_length),
+            random,
+        );
     }
     plan
 }
@@ -131,13 +189,13 @@ pub fn no_path(random: &mut Random) -> PlanFile {
             1 => plan.within(from, to, BOUND),
             _ => plan.within(from, to, random.below(2 * half)),
         };
-        if random.chance(25) {
+        if random.chance(8) {
             plan.must(variable);
         }
     }
     let clauses = random.between(0, 5);
     for _ in 0..clauses {
-        add_clause(&mut plan, random.between(1, 3), random);
+        add_clause(&mut plan, random.between(2, 4), random);
     }
     plan.renumbered(random)
 }

@@ -1,0 +1,5 @@
+pub mod Sets
+pub mod Filling
+pub mod Visits
+pub mod Breadth
+pub mod Truths

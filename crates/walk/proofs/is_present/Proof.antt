@@ -1,0 +1,26 @@
+use Rattle.walk.proofs.Filling.{is-on, is-not-off}
+use borrow.Author.Needs.{needs}
+use Rattle.walk.proofs.is_present.Statement.{statement}
+use Rattle.walk.proofs.is_present.Tie as tie
+use Rattle.walk.proofs.is_present.Reads as reads
+use Rattle.walk.proofs.is_present.Lts as lts
+use Rattle.plan.proofs.wide.Reads as wide-reads
+
+wide-requires : tie.Need-wide-requires
+wide-requires c κs = search needs
+
+sub-at : tie.Need-sub-at
+sub-at c = search needs
+
+shared-slice-copy-out-value : tie.Need-shared-slice-copy-out-value
+shared-slice-copy-out-value c = search needs
+
+returns : tie.Need-returns
+returns c = rw (c .if1 .taken) (is-not-off _ _ _ (c .before .before .wide .ensures) (c .before .before .before .pre .0) (record { sfits = c .before .value .given }))
+
+returns-2 : tie.Need-returns-2
+returns-2 c = rw (c .if1 .left) (is-on _ _ _ (c .before .before .wide .ensures) (c .before .before .before .pre .0) (record { sfits = c .before .value .given }))
+
+pub is-present-spec : {M : Type 1} → statement M
+is-present-spec =
+    tie.close (tie.spec wide-requires sub-at shared-slice-copy-out-value returns returns-2)

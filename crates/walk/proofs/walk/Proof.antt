@@ -1,0 +1,93 @@
+use mathlib.Core.Path.{_≡_, refl}
+use Prim.Native.Nat.{_-_, _≤_}
+use native.Mathlib.Numerals.{add-one}
+use native.Mathlib.Omega.{arith}
+use borrow.Author.Needs.{needs}
+use Rattle.walk.proofs.Sets.{one-shifted}
+use Rattle.walk.proofs.Breadth.{Bfs, tail-le, node-in, count-in, begin, room-for, turn, table}
+use Rattle.walk.proofs.walk.Statement.{statement}
+use Rattle.walk.proofs.walk.Tie as tie
+use Rattle.walk.proofs.walk.Reads as reads
+use Rattle.walk.proofs.walk.Lts as lts
+use Rattle.walk.proofs.visit.Reads as visit-reads
+
+abbrev Inv-loop : tie.InvT-loop
+Inv-loop neighbours source reached₀ counts₀ queue₀ tail₀ head₀ reached counts queue tail head =
+    (head ≤ tail) × Bfs neighbours source reached counts queue tail head
+
+abbrev μ-loop : tie.MeasureT-loop
+μ-loop neighbours source reached₀ counts₀ queue₀ tail₀ head₀ reached counts queue tail head = 64 - head
+
+shl-reached : tie.Need-shl-reached Inv-loop μ-loop
+shl-reached c = c .pre
+
+cast-queue : tie.Need-cast-queue Inv-loop μ-loop
+cast-queue c = omega arith
+
+array-write-queue : tie.Need-array-write-queue Inv-loop μ-loop
+array-write-queue c = search needs
+
+loop-holds : tie.Need-loop-holds Inv-loop μ-loop
+loop-holds c = (omega arith, begin _ (c .args .source) _ (c .pre) (one-shifted (c .args .source) (c .pre)))
+
+array-read-node : tie.Need-array-read-node Inv-loop μ-loop
+array-read-node c = omega (arith, tail-le (c .before .loop .inv .1))
+
+cast-node : tie.Need-cast-node Inv-loop μ-loop
+cast-node c = omega (arith, node-in (c .before .loop .inv .1) (c .loop-test .taken))
+
+mul-new : tie.Need-mul-new Inv-loop μ-loop
+mul-new c = omega (arith, node-in (c .before .loop .inv .1) (c .loop-test .taken))
+
+element-copy-out-new : tie.Need-element-copy-out-new Inv-loop μ-loop
+element-copy-out-new c = node-in (c .before .loop .inv .1) (c .loop-test .taken)
+
+array-read-count : tie.Need-array-read-count Inv-loop μ-loop
+array-read-count c = node-in (c .before .before .loop .inv .1) (c .before .loop-test .taken)
+
+add-count : tie.Need-add-count Inv-loop μ-loop
+add-count c = omega (arith, count-in (c .before .before .loop .inv .1) (c .before .loop-test .taken))
+
+visit-requires : tie.Need-visit-requires Inv-loop μ-loop
+visit-requires c κs =
+    let b = c .before .before .before .before .loop .inv .1 in
+    (b .numbered, (b .places, room-for _ _ _ _ _ _ _ b (c .before .before .before .loop-test .taken) _ _ refl refl))
+
+add-head : tie.Need-add-head Inv-loop μ-loop
+add-head c = omega (arith, tail-le (c .before .before .before .before .before .loop .inv .1))
+
+loop-less : tie.Need-loop-less Inv-loop μ-loop
+loop-less c = omega (arith, tail-le (c .before .before .before .before .before .loop .inv .1))
+
+loop-again : tie.Need-loop-again Inv-loop μ-loop
+loop-again c =
+    let b = c .before .before .before .before .before .loop .inv .1 in
+    let v = c .visit .ensures in
+    (omega (arith, v .ends), turn _ _ _ _ _ _ _ b (c .before .before .before .before .loop-test .taken) _ _ refl refl _ _ _ _ (add-one _) v)
+
+returns : tie.Need-returns Inv-loop μ-loop
+returns c = λ es g inside n.
+    let e : c .before .loop .head ≡ c .before .loop .tail = omega arith in
+    table _ _ (c .before .before .pre) es g inside n _ _ _ _ (rw e at (c .before .loop .inv .1)) _ refl refl
+
+pub walk-spec : {M : Type 1} → statement M
+walk-spec =
+    tie.close
+    (tie.spec
+    Inv-loop
+    μ-loop
+    shl-reached
+    cast-queue
+    array-write-queue
+    loop-holds
+    array-read-node
+    cast-node
+    mul-new
+    element-copy-out-new
+    array-read-count
+    add-count
+    visit-requires
+    add-head
+    loop-less
+    loop-again
+    returns)

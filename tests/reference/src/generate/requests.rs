@@ -1,0 +1,268 @@
+//! Requests about drawn files: all six calls, with good and bad assignments,
+//! atoms, budgets and rooms.
+
+use super::{file, sort, Sort};
+use crate::clauses;
+use crate::file::{read, PlanFile};
+use crate::meaning::{OFF, ON, OPEN};
+use crate::protocol::{Request, CLOSE, JUDGE, MOST_ROOM, READ, REASON, SEARCH, WRITE_CLAUSES};
+use crate::random::Random;
+use crate::reason::{reason, Reason};
+use crate::search::{search, Outcome, Searched};
+
+/// A drawn file with what is needed to ask about it.
+pub struct Subject {
+    pub sort: Sort,
+    pub file: Vec<u8>,
+    /// `None` if the file is refused.
+    plan: Option<Known>,
+}
+
+struct Known {
+    plan: PlanFile,
+    /// The search with a budget that the reference can afford.
+    searched: Searched,
+}
+
+/// Branchings the reference can afford on a file: a closing costs a walk for each
+/// source and a look at each literal.
+pub fn affordable(plan: &PlanFile) -> u32 {
+    let cost = 20 + plan.literals() + plan.atoms.len() * (plan.nodes + plan.edges.len()) / 4;
+    (200_000 / cost).clamp(20, 3_000) as u32
+}
+
+impl Subject {
+    pub fn draw(random: &mut Random) -> Subject {
+        let sort = sort(random);
+        Subject::of(sort, file(sort, random))
+    }
+
+    pub fn of(sort: Sort, file: Vec<u8>) -> Subject {
+        let plan = read(&file).ok().map(|plan| {
+            let searched = search(&plan, affordable(&plan));
+            Known { plan, searched }
+        });
+        Subject { sort, file, plan }
+    }
+
+    /// The plan file and its search, where it was accepted and decided.
+    pub fn decided(&self) -> Option<(&PlanFile, &Searched)> {
+        let known = self.plan.as_ref()?;
+        let undecided = known.searched.outcome == Outcome::Undecided;
+        (!undecided).then_some((&known.plan, &known.searched))
+    }
+
+    pub fn is_refused(&self) -> bool {
+        self.plan.is_none()
+    }
+
+    pub fn requests(&self, count: usize, random: &mut Random) -> Vec<Request> {
+        (0..count).map(|_| self.request(random)).collect()
+    }
+
+    /// A file without atoms is seldom asked for a reason.
+    fn call(&self, random: &mut Random) -> u8 {
+        let has_atoms = self
+            .plan
+            .as_ref()
+            .is_some_and(|known| !known.plan.atoms.is_empty());
+        match random.below(14) {
+            0 => READ,
+            1 | 2 => JUDGE,
+            3..=5 => CLOSE,
+            6..=8 if has_atoms || random.chance(10) => REASON,
+            12 | 13 => WRITE_CLAUSES,
+            _ => SEARCH,
+        }
+    }
+
+    fn request(&self, random: &mut Random) -> Request {
+        let mut request = junk(random);
+        request.file = self.file.clone();
+        request.call = self.call(random);
+        if let Some(known) = &self.plan {
+            match request.call {
+                JUDGE => known.ask_judge(&mut request, random),
+                CLOSE => known.ask_close(&mut request, random),
+                REASON => known.ask_reason(&mut request, random),
+                SEARCH => known.ask_search(&mut request, random),
+                WRITE_CLAUSES => known.ask_write_clauses(&mut request, random),
+                _ => (),
+            }
+        }
+        request
+    }
+}
+
+/// Fields that a call does not look at may hold anything.
+fn junk(random: &mut Random) -> Request {
+    let length = random.pick(&[0, 0, 1, 5, 9]);
+    Request {
+        call: READ,
+        file: Vec::new(),
+        assignment: (0..length).map(|_| random.number() as i8).collect(),
+        atom: random.pick(&[0, 1, 2, 64, 65, 65_535]),
+        budget: random.pick(&[0, 1, 1_000_000, u32::MAX]),
+        room: random.pick(&[0, 1, 5, 12]),
+    }
+}
+
+impl Known {
+    fn ask_judge(&self, request: &mut Request, random: &mut Random) {
+        request.assignment = self.full(random);
+        spoil(&mut request.assignment, &[OPEN, 2, -2, 127, -128], random);
+    }
+
+    fn ask_close(&self, request: &mut Request, random: &mut Random) {
+        request.assignment = self.partial(random);
+        spoil(&mut request.assignment, &[2, -2, 3, 127, -128], random);
+        request.room = self.result_room(random);
+    }
+
+    fn ask_reason(&self, request: &mut Request, random: &mut Random) {
+        let count = self.plan.atoms.len() as u16;
+        let known = random.chance(92) && count > 0;
+        request.atom = match known {
+            true => 1 + random.below(count.into()) as u16,
+            false => random.pick(&[0, count + 1, 255, 256, 65_535]),
+        };
+        let values = self.partial(random);
+        let needed = match known {
+            true => reason_length(&self.plan, &values, request.atom),
+            false => 0,
+        };
+        request.room = room(needed, random);
+        request.assignment = values;
+        spoil(&mut request.assignment, &[2, -2, 3, 127, -128], random);
+    }
+
+    fn ask_search(&self, request: &mut Request, random: &mut Random) {
+        request.room = self.result_room(random);
+        request.budget = self.budget(random);
+    }
+
+    fn ask_write_clauses(&self, request: &mut Request, random: &mut Random) {
+        let needed = clauses::counts(&self.plan).numbers;
+        // A long list is written now and then; mostly it is refused.
+        let short = needed <= 3_000 || needed <= MOST_ROOM && random.chance(10);
+        request.room = if short {
+            room(needed, random)
+        } else {
+            random.below(200) as u16
+        };
+    }
+
+    /// Around B where B is known, else what the reference can afford.
+    fn budget(&self, random: &mut Random) -> u32 {
+        if random.chance(20) {
+            return random.below(9) as u32;
+        }
+        let count = self.searched.branchings;
+        if self.searched.outcome == Outcome::Undecided {
+            return random.pick(&[count, count - 1, count / 2]);
+        }
+        let above = [count.saturating_add(1), 1_000_000, u32::MAX];
+        match random.below(10) {
+            0..=2 => count,
+            3..=5 => count.saturating_sub(1),
+            _ => random.pick(&above).max(count),
+        }
+    }
+
+    fn result_room(&self, random: &mut Random) -> u16 {
+        let count = self.plan.variables as u16;
+        match random.below(40) {
+            0 => count - 1,
+            1 => count + 1,
+            2 => random.pick(&[0, 512, 513]),
+            _ => count,
+        }
+    }
+
+    /// A full assignment: the plan found, one close to it, or any.
+    fn full(&self, random: &mut Random) -> Vec<i8> {
+        let any = (0..self.plan.variables)
+            .map(|_| random.pick(&[ON, OFF]))
+            .collect();
+        let Outcome::Plan(plan) = &self.searched.outcome else {
+            return any;
+        };
+        let mut near = plan.clone();
+        match random.below(5) {
+            0 | 1 => near,
+            2 | 3 => {
+                let place = random.below(near.len());
+                near[place] = -near[place];
+                near
+            }
+            _ => any,
+        }
+    }
+
+    /// A full assignment with some of it taken back.
+    fn partial(&self, random: &mut Random) -> Vec<i8> {
+        let open = random.pick(&[0, 20, 50, 80, 95, 100]);
+        let mut values = self.full(random);
+        for value in &mut values {
+            if random.chance(open) {
+                *value = OPEN;
+            }
+        }
+        values
+    }
+}
+
+fn reason_length(plan: &PlanFile, values: &[i8], atom: u16) -> usize {
+    match reason(plan, values, &plan.atoms[usize::from(atom) - 1]) {
+        Reason::Holds(clause) | Reason::Fails(clause) => clause.len(),
+        Reason::Open => 0,
+    }
+}
+
+/// Mostly enough room, often exactly enough, at times one too few.
+fn room(needed: usize, random: &mut Random) -> u16 {
+    let room = match random.below(10) {
+        0..=3 => needed,
+        4 | 5 => needed.saturating_sub(1),
+        6..=8 => needed + random.between(1, 6),
+        _ => random.below(needed + 1),
+    };
+    room.min(MOST_ROOM) as u16
+}
+
+/// Now and then a value that is not allowed, or a length that is not the count.
+fn spoil(values: &mut Vec<i8>, bad: &[i8], random: &mut Random) {
+    let place = random.below(values.len());
+    match random.below(50) {
+        0 | 1 => values[place] = random.pick(bad),
+        2 => {
+            values[place] = random.pick(bad);
+            let other = random.below(values.len());
+            values[other] = random.pick(bad);
+        }
+        3 => values.push(OPEN),
+        4 => {
+            values.pop();
+        }
+        5 => values.truncate(random.below(2)),
+        6 => values.resize(random.pick(&[512, 513, 600]), ON),
+        _ => (),
+    }
+}
+
+/// A stream's worth of requests about files of at most `largest` bytes.
+pub fn requests(seed: u64, count: usize, largest: usize) -> Vec<Request> {
+    let mut requests = Vec::new();
+    let mut part = 0;
+    while requests.len() < count {
+        let mut random = Random::part(seed, part);
+        part += 1;
+        let sort = sort(&mut random);
+        let file = file(sort, &mut random);
+        if file.len() <= largest {
+            let some = random.between(1, 4).min(count - requests.len());
+            requests.extend(Subject::of(sort, file).requests(some, &mut random));
+        }
+    }
+    requests
+}

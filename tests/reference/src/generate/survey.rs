@@ -1,0 +1,50 @@
+//! What the generators draw: for each sort of file the answers of the search and
+//! how many branchings they took, so that a change of a generator can be judged.
+
+use super::requests::affordable;
+use super::{file, Sort, SORTS};
+use crate::file::read;
+use crate::random::Random;
+use crate::search::{search, Outcome};
+use std::fmt::Write;
+
+pub fn survey(seed: u64, files: usize) -> String {
+    let mut text = format!("seed {seed}, {files} files of each sort\n");
+    text += "sort       refused | plan: 0     1-9   10-99    100+ | impossible: 0     1-9   10-99    100+ | undecided\n";
+    for sort in SORTS {
+        text += &row(sort, seed, files);
+    }
+    text
+}
+
+fn row(sort: Sort, seed: u64, files: usize) -> String {
+    let mut refused = 0;
+    let mut undecided = 0;
+    let (mut plans, mut impossibles) = ([0; 4], [0; 4]);
+    for number in 0..files as u64 {
+        let bytes = file(sort, &mut Random::part(seed, number));
+        let Ok(plan) = read(&bytes) else {
+            refused += 1;
+            continue;
+        };
+        let searched = search(&plan, affordable(&plan));
+        let size = (searched
+            .branchings
+            .checked_ilog10()
+            .map_or(0, |log| log + 1) as usize)
+            .min(3);
+        match searched.outcome {
+            Outcome::Plan(_) => plans[size] += 1,
+            Outcome::Impossible => impossibles[size] += 1,
+            Outcome::Undecided => undecided += 1,
+        }
+    }
+    let mut text = format!("{:<10} {refused:>7} |", format!("{sort:?}"));
+    for counts in [plans, impossibles] {
+        counts
+            .iter()
+            .for_each(|count| write!(text, " {count:>7}").expect("a string takes it"));
+        text += " |   ";
+    }
+    text + &format!(" {undecided:>6}\n")
+}

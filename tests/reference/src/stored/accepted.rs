@@ -1,0 +1,180 @@
+//! Files that are accepted, among them one at each limit.
+
+use super::Cases;
+use crate::sample;
+use crate::write::{atom, clause, edge, end, head};
+
+pub fn add(cases: &mut Cases) {
+    add_small(cases);
+    add_limits(cases);
+    add_freedoms(cases);
+}
+
+fn add_small(cases: &mut Cases) {
+    cases.accepted(
+        [3, 5, 3, 2, 2, 2],
+        "sample",
+        "the sample of document 01",
+        sample::bytes(),
+    );
+    let file = [head(1, 1), end()].concat();
+    cases.accepted(
+        [1, 1, 0, 0, 0, 0],
+        "smallest",
+        "head and end, 1 node, 1 variable",
+        file,
+    );
+    let file = [head(2, 1), edge(0, 1, 1), end()].concat();
+    cases.accepted([2, 1, 1, 0, 0, 0], "one-edge", "one edge", file);
+    let file = [head(2, 1), atom(1, 0, 1, 0, 1), end()].concat();
+    cases.accepted([2, 1, 0, 1, 0, 0], "one-atom", "one atom", file);
+    let file = [head(2, 1), clause(&[-1]), end()].concat();
+    cases.accepted([2, 1, 0, 0, 1, 1], "one-clause", "one clause", file);
+}
+
+fn add_limits(cases: &mut Cases) {
+    let file = [head(64, 1), edge(63, 0, 1), edge(0, 63, 1), end()].concat();
+    cases.accepted(
+        [64, 1, 2, 0, 0, 0],
+        "64-nodes",
+        "64 nodes, an edge from and to node 63",
+        file,
+    );
+    let file = [
+        head(2, 512),
+        edge(0, 1, 512),
+        clause(&[512, -512, 1]),
+        end(),
+    ]
+    .concat();
+    cases.accepted(
+        [2, 512, 1, 0, 1, 3],
+        "512-variables",
+        "512 variables, literals 512 and -512",
+        file,
+    );
+    let file = [head(2, 1), edge(0, 1, 1).repeat(256), end()].concat();
+    cases.accepted(
+        [2, 1, 256, 0, 0, 0],
+        "256-edges",
+        "256 edges, all the same",
+        file,
+    );
+    let file = [head(2, 1), atom(2, 0, 1, 3, 1).repeat(64), end()].concat();
+    cases.accepted(
+        [2, 1, 0, 64, 0, 0],
+        "64-atoms",
+        "64 atoms, all the same",
+        file,
+    );
+    let file = [head(1, 1), clause(&[1]).repeat(1_024), end()].concat();
+    cases.accepted(
+        [1, 1, 0, 0, 1_024, 1_024],
+        "1024-clauses",
+        "1,024 clauses of one literal",
+        file,
+    );
+    let file = [head(1, 2), clause(&[1, -2].repeat(2_048)), end()].concat();
+    cases.accepted(
+        [1, 2, 0, 0, 1, 4_096],
+        "4096-literals-in-one",
+        "one clause of 4,096 literals",
+        file,
+    );
+    let file = [head(1, 4), clause(&[1, 2, -3, -4]).repeat(1_024), end()].concat();
+    cases.accepted(
+        [1, 4, 0, 0, 1_024, 4_096],
+        "4096-literals-in-1024",
+        "1,024 clauses of four literals",
+        file,
+    );
+    let bounds = [
+        atom(2, 0, 1, 0, 1),
+        atom(2, 0, 1, 255, 2),
+        atom(1, 1, 0, 0, 3),
+    ]
+    .concat();
+    let file = [head(2, 3), bounds, end()].concat();
+    cases.accepted(
+        [2, 3, 0, 3, 0, 0],
+        "bounds-0-and-255",
+        "within 0, within 255, reaches",
+        file,
+    );
+    cases.accepted(
+        [64, 512, 256, 64, 1_024, 4_096],
+        "all-limits",
+        "every limit reached at once, 14,346 bytes",
+        all_limits(),
+    );
+}
+
+fn all_limits() -> Vec<u8> {
+    let mut file = head(64, 512);
+    (0..256).for_each(|k| file.extend(edge(k % 64, (k + 1 + k / 64) % 64, k + 1)));
+    (0..64).for_each(|k| file.extend(atom(2, k, (k + 32) % 64, k, 257 + k)));
+    (0..1_024).for_each(|k: i16| {
+        file.extend(clause(&[
+            1 + k % 512,
+            -1 - (k + 1) % 512,
+            1 + (k + 2) % 512,
+            -512,
+        ]));
+    });
+    file.extend(end());
+    assert_eq!(file.len(), 14_346);
+    file
+}
+
+/// What document 01 allows where a reader might be too strict.
+fn add_freedoms(cases: &mut Cases) {
+    let records = [
+        clause(&[2]),
+        atom(1, 0, 1, 0, 2),
+        edge(0, 1, 1),
+        clause(&[1]),
+        edge(1, 0, 1),
+    ];
+    let file = [head(2, 2), records.concat(), end()].concat();
+    cases.accepted(
+        [2, 2, 2, 1, 2, 2],
+        "any-order",
+        "clauses, atoms and edges mixed",
+        file,
+    );
+    let file = [
+        head(2, 1),
+        edge(0, 1, 1),
+        edge(1, 0, 1),
+        edge(0, 0, 1),
+        end(),
+    ]
+    .concat();
+    cases.accepted(
+        [2, 1, 3, 0, 0, 0],
+        "edges-share",
+        "a two-way link and a self edge, one variable",
+        file,
+    );
+    let file = [head(2, 1), atom(1, 0, 1, 0, 1), atom(2, 1, 1, 9, 1), end()].concat();
+    cases.accepted(
+        [2, 1, 0, 2, 0, 0],
+        "atoms-share",
+        "two atoms with one variable",
+        file,
+    );
+    let file = [head(1, 2), clause(&[1, 1, -1, 2, 1]), end()].concat();
+    cases.accepted(
+        [1, 2, 0, 0, 1, 5],
+        "both-signs",
+        "a clause with both signs and a repeat",
+        file,
+    );
+    let file = [head(1, 512), clause(&[-512, 512, 256, -256]), end()].concat();
+    cases.accepted(
+        [1, 512, 0, 0, 1, 4],
+        "two-byte-literals",
+        "literals with a high byte",
+        file,
+    );
+}

@@ -1,0 +1,112 @@
+//! The stored plan files: every refusal number of the reader, every limit at it
+//! and one past it. Each case says its expected answer by hand; the reference
+//! only confirms it before a file is written.
+
+mod accepted;
+pub mod calls;
+mod contents;
+mod order;
+mod refused;
+
+use crate::brute;
+use crate::calls::read;
+use crate::protocol::{text, Request};
+use std::fs;
+use std::io::{Error, Result};
+use std::path::Path;
+
+/// A file with its expected answer of `read`.
+pub struct Case {
+    name: String,
+    what: String,
+    file: Vec<u8>,
+    expected: String,
+}
+
+/// The cases as they are collected.
+#[derive(Default)]
+pub struct Cases(Vec<Case>);
+
+impl Cases {
+    fn add(&mut self, name: &str, what: &str, file: Vec<u8>, expected: String) {
+        self.0.push(Case {
+            name: name.into(),
+            what: what.into(),
+            file,
+            expected,
+        });
+    }
+
+    fn refused(&mut self, number: u32, offset: usize, name: &str, what: &str, file: Vec<u8>) {
+        let name = format!("refused-{number}-{name}");
+        self.add(&name, what, file, format!("refused {number} {offset}"));
+    }
+
+    /// `counts`: nodes, variables, edges, atoms, clauses, literals.
+    fn accepted(&mut self, counts: [usize; 6], name: &str, what: &str, file: Vec<u8>) {
+        let counts = counts.map(|count| count.to_string()).join(" ");
+        self.add(
+            &format!("accepted-{name}"),
+            what,
+            file,
+            format!("accepted {counts}"),
+        );
+    }
+}
+
+pub fn cases() -> Vec<Case> {
+    let mut cases = Cases::default();
+    accepted::add(&mut cases);
+    refused::add(&mut cases);
+    contents::add(&mut cases);
+    order::add(&mut cases);
+    cases.0
+}
+
+const INDEX: &str = "index.txt";
+
+const INDEX_HEAD: &str = "\
+# Stored plan files: name, expected answer of read, what it is.
+# refused NUMBER VALUE | accepted NODES VARIABLES EDGES ATOMS CLAUSES LITERALS
+";
+
+/// Writes all files and the index; refuses to if an expectation does not hold.
+pub fn write_files(folder: &Path) -> Result<()> {
+    fs::create_dir_all(folder)?;
+    let mut index = String::from(INDEX_HEAD);
+    for case in cases() {
+        confirm(&case)?;
+        let name = format!("{}.plan", case.name);
+        fs::write(folder.join(&name), &case.file)?;
+        index += &format!("{name:<42} {:<32} {}\n", case.expected, case.what);
+    }
+    fs::write(folder.join(INDEX), index)
+}
+
+fn confirm(case: &Case) -> Result<()> {
+    let said = text(read(&case.file));
+    let again = match brute::reader::read(&case.file) {
+        Ok(counts) => format!(
+            "accepted {}",
+            counts.map(|count| count.to_string()).join(" ")
+        ),
+        Err(refusal) => format!("refused {} {}", refusal.number, refusal.value),
+    };
+    if said == case.expected && again == case.expected {
+        return Ok(());
+    }
+    let Case { name, expected, .. } = case;
+    Err(Error::other(format!(
+        "{name}: expected {expected}, read {said}, brute {again}"
+    )))
+}
+
+/// The files of a folder's index as requests to read them.
+pub fn requests(folder: &Path) -> Result<Vec<Request>> {
+    let index = fs::read_to_string(folder.join(INDEX))?;
+    let names = index.lines().filter(|line| !line.starts_with('#'));
+    names
+        .filter_map(|line| line.split_whitespace().next())
+        .map(|name| fs::read(folder.join(name)).map(Request::read))
+        .collect()
+}
