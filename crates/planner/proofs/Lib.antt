@@ -1,3 +1,4 @@
 pub mod Reading
 pub mod Unique
 pub mod Places
+pub mod Stating

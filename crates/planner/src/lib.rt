@@ -1,11 +1,15 @@
+use judge::Verdict;
 use plan::Atom;
 use plan::Clause;
 use plan::Edge;
+use plan::Plan;
 use plan::Refusal;
 use reader::ReadAnswer;
 ghost use mathlib.Core.Path.{_≡_};
+ghost use Rattle.plan.specs.Tables.{planOf, Lent};
 ghost use Rattle.planner.specs.Refusing.{firstNot, taken};
 ghost use Rattle.planner.specs.Read.{ReadIs};
+ghost use Rattle.planner.specs.Judge.{judgeChecks, JudgeCase, JudgeIs};
 
 pub enum JudgeAnswer {
     Refused(Refusal),
@@ -49,6 +53,25 @@ pub fn read(file: &[u8]) -> ReadAnswer
     reader::read_into(file, &mut edges, &mut atoms, &mut clauses)
 }
 
+// Judges a full assignment: a plan, or the first clause without a true literal, or the first atom whose variable is wrong.
+pub fn judge(file: &[u8], assignment: &[i8]) -> JudgeAnswer
+    ensures { λ r. ⌜ JudgeIs (now (file .entry)) (now (assignment .entry)) r ⌝ }
+{
+    let mut edges = [0u16; Edge::TABLE];
+    let mut atoms = [0u16; Atom::TABLE];
+    let mut clauses = [0i16; Clause::TABLE];
+    let reading = reader::read_into(file, &mut edges, &mut atoms, &mut clauses);
+    match reading {
+        ReadAnswer::Refused(refusal) => JudgeAnswer::Refused(refusal),
+        ReadAnswer::Accepted(plan) => {
+            let e = plan.edges * Edge::NUMBERS;
+            let b = plan.atoms * Atom::NUMBERS;
+            let c = plan.literals + plan.clauses;
+            judge_lent(plan, &edges[..e], &atoms[..b], &clauses[..c], assignment)
+        }
+    }
+}
+
 // Whether a value is one that is taken: 1, -1, and 0 in a partial assignment.
 fn is_taken(value: i8, partial: bool) -> bool
     ensures { λ r. ⌜ r ≡ taken partial value ⌝ }
@@ -77,4 +100,24 @@ fn first_not(values: &[i8], partial: bool) -> usize
         i += 1;
     }
     i
+}
+
+fn judge_lent(plan: Plan, edges: &[u16], atoms: &[u16], clauses: &[i16], assignment: &[i8]) -> JudgeAnswer
+    requires { ⌜ Lent plan (now edges) (now atoms) (now clauses) ⌝ }
+    ensures { λ r. ⌜ JudgeCase (judgeChecks (now (assignment .entry)) (planOf plan (now (edges .entry)) (now (atoms .entry)) (now (clauses .entry)))) (now (assignment .entry)) r ⌝ }
+{
+    let variables = plan::wide(plan.variables);
+    if assignment.len() != variables {
+        return JudgeAnswer::Refused(Refusal::WrongLength(variables));
+    }
+    let place = first_not(assignment, false);
+    if place != assignment.len() {
+        return JudgeAnswer::Refused(Refusal::BadValue(place));
+    }
+    let verdict = judge::judge(plan, edges, atoms, clauses, assignment);
+    match verdict {
+        Verdict::Plan => JudgeAnswer::Plan,
+        Verdict::Clause(number) => JudgeAnswer::Clause(number),
+        Verdict::Atom(number) => JudgeAnswer::Atom(number),
+    }
 }

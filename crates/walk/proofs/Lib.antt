@@ -3,3 +3,4 @@ pub mod Filling
 pub mod Visits
 pub mod Breadth
 pub mod Truths
+pub mod Lending

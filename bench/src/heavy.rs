@@ -1,0 +1,193 @@
+//! Five heavy files. Each has more branchings than the default budget, so that
+//! time per branching is measured deep in the tree, where searches spend it.
+
+use reference::file::{read, PlanFile, ATOMS, EDGES, NODES};
+use reference::random::Random;
+use reference::write::to_bytes;
+use std::fs;
+use std::path::Path;
+
+pub struct Heavy {
+    pub name: &'static str,
+    pub what: &'static str,
+    pub plan: PlanFile,
+}
+
+pub fn files() -> Vec<Heavy> {
+    vec![
+        Heavy {
+            name: "clauses",
+            what: "645 clauses of three literals, no edges",
+            plan: clauses(),
+        },
+        Heavy {
+            name: "ring",
+            what: "64 sites, two fibres a span, hop limits",
+            plan: ring(),
+        },
+        Heavy {
+            name: "hub",
+            what: "60 sites homed on two hubs with few ports",
+            plan: hub(),
+        },
+        Heavy {
+            name: "metro",
+            what: "64 nodes, 256 edges, 61 atoms",
+            plan: metro(),
+        },
+        Heavy {
+            name: "chain",
+            what: "64 nodes in a row, four fibres a span",
+            plan: chain(),
+        },
+    ]
+}
+
+pub fn write_files(folder: &Path) -> Result<(), String> {
+    let said = |error: std::io::Error| format!("{}: {error}\n", folder.display());
+    fs::create_dir_all(folder).map_err(said)?;
+    for heavy in files() {
+        let bytes = to_bytes(&heavy.plan);
+        assert_eq!(
+            read(&bytes).as_ref(),
+            Ok(&heavy.plan),
+            "{} is accepted",
+            heavy.name
+        );
+        fs::write(folder.join(format!("{}.plan", heavy.name)), bytes).map_err(said)?;
+    }
+    Ok(())
+}
+
+/// Random three-literal clauses, 4.3 for each variable, where plans run out.
+fn clauses() -> PlanFile {
+    let mut random = Random::new(1);
+    let mut plan = PlanFile::with_nodes(1);
+    plan.variables = 150;
+    while plan.clauses.len() < 645 {
+        let mut clause: Vec<i16> = Vec::new();
+        while clause.len() < 3 {
+            let variable = random.between(1, plan.variables) as i16;
+            if clause.iter().all(|literal| literal.abs() != variable) {
+                clause.push(random.pick(&[variable, -variable]));
+            }
+        }
+        plan.clauses.push(clause);
+    }
+    plan
+}
+
+/// Each span has two fibres and may light one. Every site stays within 32 hops of
+/// site 0, so only the span across may be dark; but the crews want another one dark.
+fn ring() -> PlanFile {
+    let mut plan = PlanFile::with_nodes(NODES);
+    let spans: Vec<[usize; 2]> = (0..NODES)
+        .map(|k| [(); 2].map(|()| plan.link(k, (k + 1) % NODES)))
+        .collect();
+    for span in &spans {
+        plan.not_all(span);
+    }
+    for site in (1..NODES).filter(|site| site % 2 == 1) {
+        let near = plan.within(0, site, NODES / 2);
+        plan.must(near);
+    }
+    let dark: Vec<usize> = (NODES - 8..NODES)
+        .map(|k| dark_span(&mut plan, &spans[k]))
+        .collect();
+    plan.one_of(&dark);
+    plan
+}
+
+/// A variable that is on only if all fibres of a span are dark.
+fn dark_span(plan: &mut PlanFile, span: &[usize]) -> usize {
+    let dark = plan.variable();
+    span.iter().for_each(|&fibre| plan.not_all(&[dark, fibre]));
+    dark
+}
+
+/// Five sites share five ports at each hub, of which three work; in the last
+/// group two, which is one too few.
+fn hub() -> PlanFile {
+    let (hubs, sites, group) = (2, 60, 5);
+    let mut plan = PlanFile::with_nodes(hubs + sites);
+    let trunk = plan.link(0, 1);
+    plan.must(trunk);
+    let homes: Vec<[usize; 2]> = (0..sites)
+        .map(|site| [0, 1].map(|hub| plan.link(hub, hubs + site)))
+        .collect();
+    for site in 0..sites {
+        let near = plan.within(0, hubs + site, 2);
+        plan.must(near);
+    }
+    for (number, group) in homes.chunks(group).enumerate() {
+        let last = (number + 1) * group.len() == sites;
+        for hub in [0, 1] {
+            let ports: Vec<usize> = group.iter().map(|home| home[hub]).collect();
+            plan.at_most(if last { 2 } else { 3 }, &ports);
+        }
+    }
+    plan
+}
+
+/// A core ring of four hubs, an access ring of fifteen sites at each, chords up to
+/// 256 edges, hop limits from hub 0, and house rules over the links.
+fn metro() -> PlanFile {
+    let mut random = Random::new(4);
+    let (hubs, sites) = (4, 15);
+    let mut plan = PlanFile::with_nodes(NODES);
+    for hub in 0..hubs {
+        plan.link(hub, (hub + 1) % hubs);
+        let site = |k: usize| hubs + hub * sites + k;
+        plan.link(hub, site(0));
+        (1..sites).for_each(|k| {
+            plan.link(site(k - 1), site(k));
+        });
+        plan.link(site(sites - 1), hub);
+        plan.link(site(sites / 2), (hub + 1) % hubs);
+    }
+    while plan.edges.len() < EDGES {
+        let a = random.between(hubs, NODES - 1);
+        let b = (a + random.between(2, 20)) % NODES;
+        plan.link(a, b);
+    }
+    let links = plan.variables;
+    for site in hubs..NODES {
+        let near = plan.within(0, site, random.between(5, 8));
+        plan.must(near);
+    }
+    let home = plan.reaches(NODES - 1, 0);
+    plan.must(home);
+    assert_eq!(plan.atoms.len(), ATOMS - 3);
+    for _ in 0..RULES {
+        let rule = [(); 3].map(|()| random.between(1, links) as i16);
+        plan.clauses.push(
+            rule.map(|x| if random.chance(60) { -x } else { x })
+                .to_vec(),
+        );
+    }
+    plan
+}
+
+const RULES: usize = 420;
+
+/// A row of 63 spans with four one-way fibres each, of which one may be lit, and
+/// two house rules' variables for which there are no good values.
+fn chain() -> PlanFile {
+    let mut plan = PlanFile::with_nodes(NODES);
+    let spans: Vec<[usize; 4]> = (1..NODES)
+        .map(|k| [(); 4].map(|()| plan.edge(k - 1, k)))
+        .collect();
+    for span in &spans {
+        plan.at_most(1, span);
+    }
+    for node in (3..NODES).step_by(4) {
+        let near = plan.within(0, node, node);
+        plan.must(near);
+        let far = plan.within(0, node, node - 1);
+        plan.must_not(far);
+    }
+    let (p, q) = (plan.variable() as i16, plan.variable() as i16);
+    plan.clauses
+        .extend([vec![p, q], vec![p, -q], vec![-p, q], vec![-p, -q]]);
+    plan
+}

@@ -1,0 +1,44 @@
+//! The yardstick: see `USAGE`.
+
+mod check;
+mod clauses;
+mod engine;
+mod graph;
+mod heavy;
+mod literals;
+mod time;
+
+use std::path::Path;
+use std::process::ExitCode;
+
+const USAGE: &str = "\
+usage: yardstick COMMAND
+  files DIR            the five heavy plan files into DIR
+  check [SEED [FILES]] the yardstick's search against the reference's, on drawn and heavy files
+  time [BRANCHINGS]    time per branching on the heavy files, and per walk, closing and number
+";
+
+fn main() -> ExitCode {
+    let arguments: Vec<String> = std::env::args().skip(1).collect();
+    let words: Vec<&str> = arguments.iter().map(String::as_str).collect();
+    let number = |word: &str| {
+        word.parse::<u32>()
+            .map_err(|error| format!("{word}: {error}\n"))
+    };
+    let done = match words.as_slice() {
+        ["files", folder] => heavy::write_files(Path::new(folder)),
+        ["check"] => check::run(1, 3_000),
+        ["check", seed] => number(seed).and_then(|seed| check::run(seed, 3_000)),
+        ["check", seed, files] => number(seed).and_then(|seed| check::run(seed, number(files)?)),
+        ["time"] => time::run(300_000),
+        ["time", branchings] => number(branchings).and_then(time::run),
+        _ => Err(USAGE.into()),
+    };
+    match done {
+        Ok(()) => ExitCode::SUCCESS,
+        Err(message) => {
+            eprint!("{message}");
+            ExitCode::FAILURE
+        }
+    }
+}

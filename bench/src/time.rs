@@ -1,0 +1,150 @@
+//! Times on the heavy files.
+//!
+//! To time another engine, such as the compiled library, add it to `ENGINES`:
+//! it takes a file's bytes and a budget and gives back the branchings it counted.
+
+use crate::engine::{self, Engine};
+use crate::graph::{walk, NONE};
+use crate::heavy;
+use reference::clauses;
+use reference::file::{read, PlanFile, NODES};
+use reference::write::to_bytes;
+use std::hint::black_box;
+use std::time::{Duration, Instant};
+
+struct Timed {
+    name: &'static str,
+    search: fn(&[u8], u32) -> u32,
+    /// A slow engine gets this part of the branchings.
+    share: u32,
+}
+
+/// The first is what the others are measured by.
+const ENGINES: [Timed; 2] = [
+    Timed {
+        name: "yardstick",
+        search: yardstick,
+        share: 1,
+    },
+    Timed {
+        name: "reference",
+        search: reference_search,
+        share: 100,
+    },
+];
+
+fn yardstick(file: &[u8], budget: u32) -> u32 {
+    read(file).map_or(0, |plan| engine::search(&plan, budget).branchings)
+}
+
+fn reference_search(file: &[u8], budget: u32) -> u32 {
+    read(file).map_or(0, |plan| {
+        reference::search::search(&plan, budget).branchings
+    })
+}
+
+pub fn run(branchings: u32) -> Result<(), String> {
+    println!("time per branching in nanoseconds, {branchings} branchings, best of three");
+    let names: Vec<String> = ENGINES
+        .iter()
+        .map(|engine| format!("{:>12}", engine.name))
+        .collect();
+    println!("{:<10}{}{:>10}", "file", names.concat(), "ratio");
+    for heavy in heavy::files() {
+        let bytes = to_bytes(&heavy.plan);
+        let times: Vec<f64> = ENGINES
+            .iter()
+            .map(|engine| per_branching(engine, &bytes, branchings))
+            .collect();
+        let shown: Vec<String> = times.iter().map(|time| format!("{time:>12.0}")).collect();
+        let ratio = times[times.len() - 1] / times[0];
+        println!(
+            "{:<10}{}{ratio:>10.1}  {}",
+            heavy.name,
+            shown.concat(),
+            heavy.what
+        );
+    }
+    time_steps();
+    Ok(())
+}
+
+fn best_of_three(mut work: impl FnMut()) -> Duration {
+    let once = |work: &mut dyn FnMut()| {
+        let start = Instant::now();
+        work();
+        start.elapsed()
+    };
+    (0..3).map(|_| once(&mut work)).min().unwrap_or_default()
+}
+
+fn per_branching(engine: &Timed, file: &[u8], branchings: u32) -> f64 {
+    let budget = (branchings / engine.share).max(1);
+    let mut counted = 0;
+    let time = best_of_three(|| counted = (engine.search)(black_box(file), budget));
+    assert_eq!(
+        counted, budget,
+        "a heavy file has more branchings than that"
+    );
+    time.as_nanos() as f64 / f64::from(counted)
+}
+
+/// The steps by themselves, done by hand: a walk with everything lit, a closing
+/// from all open, and a number of the written clauses.
+fn time_steps() {
+    println!("\nsteps by hand, in nanoseconds");
+    println!(
+        "{:<10}{:>12}{:>12}{:>12}",
+        "file", "walk", "closing", "number"
+    );
+    for heavy in heavy::files() {
+        let walk = time_walk(&heavy.plan);
+        let closing = time_closing(&heavy.plan);
+        let number = time_number(&heavy.plan);
+        println!(
+            "{:<10}{walk:>12.0}{closing:>12.0}{number:>12.2}",
+            heavy.name
+        );
+    }
+}
+
+fn time_walk(plan: &PlanFile) -> f64 {
+    const TIMES: usize = 20_000;
+    let engine = Engine::of(plan);
+    let next = engine.graph().over_neighbours();
+    let mut hops = [NONE; NODES];
+    let time = best_of_three(|| {
+        for k in 0..TIMES {
+            walk(black_box(next), k % plan.nodes, &mut hops);
+            black_box(&hops);
+        }
+    });
+    time.as_nanos() as f64 / TIMES as f64
+}
+
+/// With the tables made beforehand, as they are in the middle of a search.
+fn time_closing(plan: &PlanFile) -> f64 {
+    const TIMES: usize = 300;
+    let times = (0..3).map(|_| {
+        let mut engines: Vec<Engine> = (0..TIMES).map(|_| Engine::of(plan)).collect();
+        let start = Instant::now();
+        engines.iter_mut().for_each(|engine| {
+            black_box(engine.first_closing().is_ok());
+        });
+        start.elapsed().as_nanos() as f64 / TIMES as f64
+    });
+    times.fold(f64::INFINITY, f64::min)
+}
+
+/// The list of the first atoms, up to a million numbers.
+fn time_number(plan: &PlanFile) -> f64 {
+    let mut plan = plan.clone();
+    while clauses::counts(&plan).numbers > 1_000_000 {
+        plan.atoms.pop();
+    }
+    let numbers = clauses::counts(&plan).numbers;
+    let time = best_of_three(|| {
+        black_box(clauses::write(black_box(&plan)));
+    });
+    time.as_nanos() as f64 / numbers as f64
+}

@@ -1,0 +1,4 @@
+pub mod Passing
+pub mod Clauses
+pub mod Rights
+pub mod Lending

@@ -1,0 +1,32 @@
+use Rattle.plan.specs.Meaning.{trueIn, on}
+use Rattle.judge.proofs.Rights.{right-on, right-off, value-one, value-else}
+use borrow.Author.Needs.{needs}
+use Rattle.judge.proofs.is_right.Statement.{statement}
+use Rattle.judge.proofs.is_right.Tie as tie
+use Rattle.judge.proofs.is_right.Reads as reads
+use Rattle.judge.proofs.is_right.Lts as lts
+use Rattle.plan.proofs.wide.Reads as wide-reads
+use Rattle.walk.proofs.is_true.Reads as is-true-reads
+
+is-true-requires : tie.Need-is-true-requires
+is-true-requires c κs = search needs
+
+wide-requires : tie.Need-wide-requires
+wide-requires c κs = search needs
+
+sub-at : tie.Need-sub-at
+sub-at c = search needs
+
+shared-slice-copy-out-value : tie.Need-shared-slice-copy-out-value
+shared-slice-copy-out-value c = search needs
+
+returns : tie.Need-returns
+returns c = λ es x. right-on (trueIn (c .before .before .before .before .args .assignment .now) (on (c .before .before .before .before .args .atom .variable))) (c .before .before .before .is-true .result) (value-one (c .before .before .before .before .args .assignment .now) _ (c .before .before .wide .result) (c .before .before .wide .ensures) (c .before .before .before .before .pre .1 .0) (record { sfits = c .before .value .given }) (c .if1 .taken)) (c .before .before .before .is-true .ensures es _ x)
+
+returns-2 : tie.Need-returns-2
+returns-2 c = λ es x. right-off (trueIn (c .before .before .before .before .args .assignment .now) (on (c .before .before .before .before .args .atom .variable))) (c .before .before .before .is-true .result) (value-else (c .before .before .before .before .args .assignment .now) _ (c .before .before .wide .result) (c .before .before .wide .ensures) (c .before .before .before .before .pre .1 .0) (record { sfits = c .before .value .given }) (c .if1 .left)) (c .before .before .before .is-true .ensures es _ x)
+
+pub is-right-spec : {M : Type 1} → statement M
+is-right-spec =
+    tie.close
+    (tie.spec is-true-requires wide-requires sub-at shared-slice-copy-out-value returns returns-2)

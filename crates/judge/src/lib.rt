@@ -1,0 +1,159 @@
+use plan::Atom;
+use plan::Plan;
+use walk::Hops;
+ghost use mathlib.Core.Path.{_≡_};
+ghost use mathlib.Core.Logic.{_↔_};
+ghost use Prim.Native.Nat.{ℕ, _+_, _*_, _-_, _<_, _≤_};
+ghost use lib.Dec.{T};
+ghost use lib.ListN.{length};
+ghost use Rattle.plan.specs.Meaning.{Full, HasTrue};
+ghost use Rattle.plan.specs.Search.{Assigned};
+ghost use Rattle.plan.specs.Judging.{Judged};
+ghost use Rattle.plan.specs.Tables.{edgesOf, atomsOf, atomOf, clausesOf, planOf, Lent};
+ghost use Rattle.plan.specs.Written.{flat};
+ghost use Rattle.walk.specs.Hopping.{Inside, Placed, Walked};
+ghost use Rattle.judge.specs.Verdicts.{verdictOf, FirstIs, RightIn, RightBy, LiteralsFit, ClausesFit, AtomsFit, NextEnd};
+
+// What an assignment is: a plan, or the number of the first clause without a true literal, or of the first atom whose variable is wrong.
+pub enum Verdict {
+    Plan,
+    Clause(usize),
+    Atom(usize),
+}
+
+// Where the first element stands that is not as it should be, numbered from 1.
+pub enum First {
+    Nowhere,
+    At(usize),
+}
+
+// The place of the first 0 at or behind `from`.
+fn end_of(clauses: &[i16], from: usize) -> usize
+    requires { ⌜ flat (clausesOf (now clauses)) ≡ now clauses ⌝ }
+    requires { ⌜ from < length (now clauses) ⌝ }
+    ensures { λ r. ⌜ NextEnd (now (clauses .entry)) from r ⌝ }
+{
+    let mut at = from;
+    while clauses[at] != 0 {
+        at += 1;
+    }
+    at
+}
+
+// Whether a clause has a true literal.
+fn has_true(assignment: &[i8], clause: &[i16]) -> bool
+    requires { ⌜ Assigned (length (now assignment)) (now assignment) ⌝ }
+    requires { ⌜ length (now assignment) ≤ 512 ⌝ }
+    requires { ⌜ LiteralsFit (length (now assignment)) (now clause) ⌝ }
+    ensures { λ r. ⌜ (T r ↔ HasTrue (now (assignment .entry)) (now (clause .entry))) ⌝ }
+{
+    let mut k = 0;
+    while k < clause.len() {
+        let literal = clause[k];
+        let value = plan::value_of(assignment, literal);
+        if value == 1 {
+            return true;
+        }
+        k += 1;
+    }
+    false
+}
+
+// The first clause without a true literal.
+fn first_untrue(assignment: &[i8], clauses: &[i16]) -> First
+    requires { ⌜ Assigned (length (now assignment)) (now assignment) ⌝ }
+    requires { ⌜ length (now assignment) ≤ 512 ⌝ }
+    requires { ⌜ ClausesFit (length (now assignment)) (now clauses) ⌝ }
+    ensures { λ r. ⌜ FirstIs (HasTrue (now (assignment .entry))) (clausesOf (now (clauses .entry))) r ⌝ }
+{
+    let mut at = 0;
+    let mut number = 0;
+    while at < clauses.len() {
+        let end = end_of(clauses, at);
+        number += 1;
+        if !has_true(assignment, &clauses[at..end]) {
+            return First::At(number);
+        }
+        at = end + 1;
+    }
+    First::Nowhere
+}
+
+// Whether an atom's variable equals its truth, by the hops from its source.
+fn is_right(atom: Atom, hops: Hops, assignment: &[i8]) -> bool
+    requires { ⌜ atom .to < 64 ⌝ }
+    requires { ⌜ 1 ≤ atom .variable ⌝ }
+    requires { ⌜ atom .variable ≤ length (now assignment) ⌝ }
+    ensures { λ r. ⌜ RightBy (now (assignment .entry)) (atomOf atom) hops r ⌝ }
+{
+    let truth = walk::is_true(atom, hops);
+    let at = plan::wide(atom.variable) - 1;
+    let value = assignment[at];
+    if value == 1 {
+        return truth;
+    }
+    !truth
+}
+
+// The hops from the node `next`, where those from `source` are known.
+fn hops_from(neighbours: &[u64; 64], hops: Hops, source: usize, next: usize) -> Hops
+    requires { ⌜ next < 64 ⌝ }
+    requires { ⌜ Walked (now neighbours) source hops ⌝ }
+    ensures { λ r. ⌜ Walked (now (neighbours .entry)) next r ⌝ }
+{
+    if next == source {
+        return hops;
+    }
+    walk::walk(neighbours, next)
+}
+
+// The first of `count` atoms whose variable is wrong.
+fn first_wrong(edges: &[u16], atoms: &[u16], count: usize, assignment: &[i8]) -> First
+    requires { ⌜ Inside (edgesOf (now edges)) ⌝ }
+    requires { ⌜ Placed (edgesOf (now edges)) (length (now assignment)) ⌝ }
+    requires { ⌜ AtomsFit (length (now assignment)) (atomsOf (now atoms)) ⌝ }
+    requires { ⌜ length (now atoms) ≡ count * 5 ⌝ }
+    ensures { λ r. ⌜ FirstIs (RightIn (edgesOf (now (edges .entry))) (now (assignment .entry))) (atomsOf (now (atoms .entry))) r ⌝ }
+{
+    let neighbours = walk::neighbours(edges, assignment, false);
+    let mut source = 0;
+    let mut hops = walk::walk(&neighbours, source);
+    let mut number = 0;
+    while number < count {
+        let atom = plan::atom_at(atoms, number);
+        let from = plan::wide(atom.from);
+        hops = hops_from(&neighbours, hops, source, from);
+        source = from;
+        number += 1;
+        if !is_right(atom, hops, assignment) {
+            return First::At(number);
+        }
+    }
+    First::Nowhere
+}
+
+// Judges a full assignment.
+pub fn judge(
+    plan: Plan,
+    edges: &[u16],
+    atoms: &[u16],
+    clauses: &[i16],
+    assignment: &[i8],
+) -> Verdict
+    requires { ⌜ Lent plan (now edges) (now atoms) (now clauses) ⌝ }
+    requires { ⌜ Full (plan .variables) (now assignment) ⌝ }
+    ensures { λ r. ⌜ Judged (planOf plan (now (edges .entry)) (now (atoms .entry)) (now (clauses .entry))) (now (assignment .entry)) (verdictOf r) ⌝ }
+{
+    let clause = first_untrue(assignment, clauses);
+    match clause {
+        First::At(number) => {
+            return Verdict::Clause(number);
+        }
+        First::Nowhere => {}
+    }
+    let atom = first_wrong(edges, atoms, plan.atoms, assignment);
+    match atom {
+        First::At(number) => Verdict::Atom(number),
+        First::Nowhere => Verdict::Plan,
+    }
+}
