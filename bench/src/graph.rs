@@ -116,7 +116,9 @@ pub struct Graph {
     added: Vec<(u8, u8)>,
     removed: Vec<(u8, u8)>,
     log: Vec<Logged>,
-    /// Boxes to use again, so that a walk costs no allocation.
+    /// Boxes to use again, so that a walk costs no allocation; the log holds them
+    /// as boxes, to stay small.
+    #[allow(clippy::vec_box)]
     spare: Vec<Box<Hops>>,
 }
 

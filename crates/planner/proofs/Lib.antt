@@ -2,3 +2,5 @@ pub mod Reading
 pub mod Unique
 pub mod Places
 pub mod Stating
+pub mod Demand2
+pub mod Demand3

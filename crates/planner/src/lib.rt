@@ -6,6 +6,7 @@ use plan::Plan;
 use plan::Refusal;
 use reader::ReadAnswer;
 ghost use mathlib.Core.Path.{_≡_};
+ghost use lib.ListN.{length};
 ghost use Rattle.plan.specs.Tables.{planOf, Lent};
 ghost use Rattle.planner.specs.Refusing.{firstNot, taken};
 ghost use Rattle.planner.specs.Read.{ReadIs};
@@ -119,5 +120,17 @@ fn judge_lent(plan: Plan, edges: &[u16], atoms: &[u16], clauses: &[i16], assignm
         Verdict::Plan => JudgeAnswer::Plan,
         Verdict::Clause(number) => JudgeAnswer::Clause(number),
         Verdict::Atom(number) => JudgeAnswer::Atom(number),
+    }
+}
+
+// Copies one assignment over another of the same length.
+fn copy(to: &mut [i8], from: &[i8])
+    requires { ⌜ length (now to) ≡ length (now from) ⌝ }
+    ensures { λ _. ⌜ now (to .exit) ≡ now (from .entry) ⌝ }
+{
+    let mut i = 0;
+    while i < from.len() {
+        to[i] = from[i];
+        i += 1;
     }
 }
