@@ -2,6 +2,7 @@
 
 mod check;
 mod clauses;
+mod clock;
 mod engine;
 mod graph;
 mod heavy;

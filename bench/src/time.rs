@@ -3,6 +3,7 @@
 //! To time another engine, such as the compiled library, add it to `ENGINES`:
 //! it takes a file's bytes and a budget and gives back the branchings it counted.
 
+use crate::clock::time;
 use crate::engine::{self, Engine};
 use crate::graph::{walk, NONE};
 use crate::heavy;
@@ -10,7 +11,7 @@ use reference::clauses;
 use reference::file::{read, PlanFile, NODES};
 use reference::write::to_bytes;
 use std::hint::black_box;
-use std::time::{Duration, Instant};
+use std::time::Duration;
 
 struct Timed {
     name: &'static str,
@@ -33,6 +34,8 @@ const ENGINES: [Timed; 2] = [
     },
 ];
 
+const ROUNDS: usize = 5;
+
 fn yardstick(file: &[u8], budget: u32) -> u32 {
     read(file).map_or(0, |plan| engine::search(&plan, budget).branchings)
 }
@@ -44,7 +47,9 @@ fn reference_search(file: &[u8], budget: u32) -> u32 {
 }
 
 pub fn run(branchings: u32) -> Result<(), String> {
-    println!("time per branching in nanoseconds, {branchings} branchings, best of three");
+    println!(
+        "processor time per branching in nanoseconds, {branchings} branchings, best of {ROUNDS}"
+    );
     let names: Vec<String> = ENGINES
         .iter()
         .map(|engine| format!("{:>12}", engine.name))
@@ -52,10 +57,7 @@ pub fn run(branchings: u32) -> Result<(), String> {
     println!("{:<10}{}{:>10}", "file", names.concat(), "ratio");
     for heavy in heavy::files() {
         let bytes = to_bytes(&heavy.plan);
-        let times: Vec<f64> = ENGINES
-            .iter()
-            .map(|engine| per_branching(engine, &bytes, branchings))
-            .collect();
+        let times = per_branching(&bytes, branchings);
         let shown: Vec<String> = times.iter().map(|time| format!("{time:>12.0}")).collect();
         let ratio = times[times.len() - 1] / times[0];
         println!(
@@ -69,19 +71,28 @@ pub fn run(branchings: u32) -> Result<(), String> {
     Ok(())
 }
 
-fn best_of_three(mut work: impl FnMut()) -> Duration {
-    let once = |work: &mut dyn FnMut()| {
-        let start = Instant::now();
-        work();
-        start.elapsed()
-    };
-    (0..3).map(|_| once(&mut work)).min().unwrap_or_default()
+fn best(mut work: impl FnMut()) -> Duration {
+    (0..ROUNDS)
+        .map(|_| time(&mut work))
+        .min()
+        .unwrap_or_default()
 }
 
-fn per_branching(engine: &Timed, file: &[u8], branchings: u32) -> f64 {
+/// The engines take turns, so that a busy moment of the machine hits them alike.
+fn per_branching(file: &[u8], branchings: u32) -> [f64; ENGINES.len()] {
+    let mut best = [f64::INFINITY; ENGINES.len()];
+    for _ in 0..ROUNDS {
+        for (engine, best) in ENGINES.iter().zip(&mut best) {
+            *best = best.min(once(engine, file, branchings));
+        }
+    }
+    best
+}
+
+fn once(engine: &Timed, file: &[u8], branchings: u32) -> f64 {
     let budget = (branchings / engine.share).max(1);
     let mut counted = 0;
-    let time = best_of_three(|| counted = (engine.search)(black_box(file), budget));
+    let time = time(|| counted = (engine.search)(black_box(file), budget));
     assert_eq!(
         counted, budget,
         "a heavy file has more branchings than that"
@@ -113,7 +124,7 @@ fn time_walk(plan: &PlanFile) -> f64 {
     let engine = Engine::of(plan);
     let next = engine.graph().over_neighbours();
     let mut hops = [NONE; NODES];
-    let time = best_of_three(|| {
+    let time = best(|| {
         for k in 0..TIMES {
             walk(black_box(next), k % plan.nodes, &mut hops);
             black_box(&hops);
@@ -125,13 +136,14 @@ fn time_walk(plan: &PlanFile) -> f64 {
 /// With the tables made beforehand, as they are in the middle of a search.
 fn time_closing(plan: &PlanFile) -> f64 {
     const TIMES: usize = 300;
-    let times = (0..3).map(|_| {
+    let times = (0..ROUNDS).map(|_| {
         let mut engines: Vec<Engine> = (0..TIMES).map(|_| Engine::of(plan)).collect();
-        let start = Instant::now();
-        engines.iter_mut().for_each(|engine| {
-            black_box(engine.first_closing().is_ok());
+        let time = time(|| {
+            engines.iter_mut().for_each(|engine| {
+                black_box(engine.first_closing().is_ok());
+            });
         });
-        start.elapsed().as_nanos() as f64 / TIMES as f64
+        time.as_nanos() as f64 / TIMES as f64
     });
     times.fold(f64::INFINITY, f64::min)
 }
@@ -143,7 +155,7 @@ fn time_number(plan: &PlanFile) -> f64 {
         plan.atoms.pop();
     }
     let numbers = clauses::counts(&plan).numbers;
-    let time = best_of_three(|| {
+    let time = best(|| {
         black_box(clauses::write(black_box(&plan)));
     });
     time.as_nanos() as f64 / numbers as f64
