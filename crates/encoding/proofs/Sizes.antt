@@ -195,14 +195,14 @@ levels-le n A = go (A .kind)
     go (suc (suc zero)) = omega arith
     go (suc (suc (suc k))) = omega arith
 
-total-le : (size : ℕ → ℕ) (n most : ℕ) → ((L : ℕ) → L ≤ n - 1 → size L ≤ most) → (As : List Atom) → total size n As ≤ length As * most
+pub total-le : (size : ℕ → ℕ) (n most : ℕ) → ((L : ℕ) → L ≤ n - 1 → size L ≤ most) → (As : List Atom) → total size n As ≤ length As * most
 unfolding total
 total-le size n most h [] = omega arith
 total-le size n most h (A ∷ As) = omega (arith, h (levels n A) (levels-le n A), total-le size n most h As)
 
 -- at the limits of 64 nodes and 256 edges
 module _ (n m : ℕ) (hn : n ≤ 64) (hm : m ≤ 256) (L : ℕ) (hL : L ≤ n - 1) where
-  level-product : (d most : ℕ) → d ≤ most → L * d ≤ 63 * most
+  pub level-product : (d most : ℕ) → d ≤ most → L * d ≤ 63 * most
   level-product d most hd = le-trans (mul-le-mul-right {m = L} {n = 63} d (omega arith)) (mul-le-mul-left {m = d} {n = most} 63 hd)
 
   pub block-variables-most : blockVariables n m L ≤ 20224

@@ -1,16 +1,18 @@
+use clauses::Writing;
 use judge::Verdict;
 use plan::Atom;
 use plan::Clause;
 use plan::Edge;
 use plan::Plan;
 use plan::Refusal;
-use reader::ReadAnswer;
+pub use reader::ReadAnswer;
 ghost use mathlib.Core.Path.{_≡_};
 ghost use lib.ListN.{length};
 ghost use Rattle.plan.specs.Tables.{planOf, Lent};
 ghost use Rattle.planner.specs.Refusing.{firstNot, taken};
 ghost use Rattle.planner.specs.Read.{ReadIs};
 ghost use Rattle.planner.specs.Judge.{judgeChecks, JudgeCase, JudgeIs};
+ghost use Rattle.planner.specs.Write.{writeChecks, WriteCase, WrittenIs};
 
 pub enum JudgeAnswer {
     Refused(Refusal),
@@ -73,6 +75,25 @@ pub fn judge(file: &[u8], assignment: &[i8]) -> JudgeAnswer
     }
 }
 
+// Writes the file out as clauses: the file's own, then a block for each atom, each clause ended by 0.
+pub fn write_clauses(file: &[u8], out: &mut [i32]) -> WriteAnswer
+    ensures { λ r. ⌜ WrittenIs (now (file .entry)) (now (out .entry)) (now (out .exit)) r ⌝ }
+{
+    let mut edges = [0u16; Edge::TABLE];
+    let mut atoms = [0u16; Atom::TABLE];
+    let mut clauses = [0i16; Clause::TABLE];
+    let reading = reader::read_into(file, &mut edges, &mut atoms, &mut clauses);
+    match reading {
+        ReadAnswer::Refused(refusal) => WriteAnswer::Refused(refusal),
+        ReadAnswer::Accepted(plan) => {
+            let e = plan.edges * Edge::NUMBERS;
+            let b = plan.atoms * Atom::NUMBERS;
+            let c = plan.literals + plan.clauses;
+            write_lent(plan, &edges[..e], &atoms[..b], &clauses[..c], out)
+        }
+    }
+}
+
 // Whether a value is one that is taken: 1, -1, and 0 in a partial assignment.
 fn is_taken(value: i8, partial: bool) -> bool
     ensures { λ r. ⌜ r ≡ taken partial value ⌝ }
@@ -120,6 +141,17 @@ fn judge_lent(plan: Plan, edges: &[u16], atoms: &[u16], clauses: &[i16], assignm
         Verdict::Plan => JudgeAnswer::Plan,
         Verdict::Clause(number) => JudgeAnswer::Clause(number),
         Verdict::Atom(number) => JudgeAnswer::Atom(number),
+    }
+}
+
+fn write_lent(plan: Plan, edges: &[u16], atoms: &[u16], clauses: &[i16], out: &mut [i32]) -> WriteAnswer
+    requires { ⌜ Lent plan (now edges) (now atoms) (now clauses) ⌝ }
+    ensures { λ r. ⌜ WriteCase (writeChecks (now (out .entry)) (planOf plan (now (edges .entry)) (now (atoms .entry)) (now (clauses .entry)))) (now (out .entry)) (now (out .exit)) r ⌝ }
+{
+    let writing = clauses::write_clauses(plan, edges, atoms, clauses, out);
+    match writing {
+        Writing::Written(counts) => WriteAnswer::Written(counts.variables, counts.clauses, counts.numbers),
+        Writing::Short(needed) => WriteAnswer::Refused(Refusal::NoRoom(needed)),
     }
 }
 

@@ -1,0 +1,50 @@
+-- The invariant of a loop that writes the pieces g 0, g 1, .. one behind the other, and its laws.
+-- Assumes nothing.
+use mathlib.Core.Path.{_≡_, refl, sym, _∙_, ap, subst}
+use mathlib.Core.List.{List, _++_}
+use mathlib.Core.Logic.{_⊎_, inl, inr}
+use Prim.Native.Nat.{ℕ, zero, suc, _+_, _-_, _≤_, _<_}
+use native.Mathlib.Omega.{arith}
+use native.Mathlib.Numerals.{add-one}
+use lib.IntN.{ℤ}
+use lib.ListN.{length, length-append}
+use Rattle.plan.specs.Written.{each}
+use Rattle.plan.proofs.Walks.{le-or-lt}
+use Rattle.clauses.specs.Front.{Room, Put}
+use Rattle.clauses.proofs.Fronts.{rest, joined, rest-length, put-none, put-as, put-length, put-then, room-first, room-rest}
+
+-- k of m pieces are written
+pub record Filling (g : ℕ → List ℤ) (m : ℕ) (old out : List ℤ) (used k : ℕ) : Type 0 where
+  pub turns : k ≤ m
+  pub room : Room (each m g) old
+  pub put : Put (each k g) old out used
+  pub same : length out ≡ length old
+
+each-upto : (g : ℕ → List ℤ) (k m : ℕ) → k ≤ m → length (each k g) ≤ length (each m g)
+unfolding each
+each-upto g k zero l = let e : k ≡ 0 = omega arith in subst (λ x. length (each x g) ≤ 0) (sym e) (omega arith)
+each-upto g k (suc m) l = go (each-upto g k m) (le-or-lt k m)
+  where
+    go : (k ≤ m → length (each k g) ≤ length (each m g)) → (k ≤ m) ⊎ (m < k) → length (each k g) ≤ length (each m g ++ g m)
+    go ih (inl h) = omega (arith, ih h, length-append (each m g) (g m))
+    go ih (inr h) = let e : k ≡ suc m = omega arith in subst (λ x. length (each x g) ≤ length (each m g ++ g m)) (sym e) (omega arith)
+
+pub filling-start : (g : ℕ → List ℤ) (m : ℕ) (old : List ℤ) → Room (each m g) old → Filling g m old old 0 0
+unfolding each
+filling-start g m old h = record { turns = omega arith; room = h; put = put-none old; same = refl }
+
+module _ {g : ℕ → List ℤ} {m : ℕ} {old out : List ℤ} {used k : ℕ} (f : Filling g m old out used k) where
+  -- there is room for the next piece in the rest
+  pub filling-room : k < m → Room (g k) (rest used out)
+  unfolding each
+  filling-room l = room-rest (each k g) (g k) (record { fits = omega (arith, f .room .fits, each-upto g (suc k) m l) }) (f .put)
+
+  -- the next piece is written there
+  pub filling-turn : k < m → {t : List ℤ} {more : ℕ} → Put (g k) (rest used out) t more → Filling g m old (joined used out t) (used + more) (k + 1)
+  unfolding each
+  filling-turn l p =
+      let q = put-then (f .put) p in
+      record { turns = omega arith; room = f .room; put = rw add-one q; same = put-length q }
+
+  pub filling-end : m ≤ k → Put (each m g) old out used
+  filling-end l = let e : k ≡ m = omega (arith, f .turns) in put-as (ap (λ x. each x g) e) (f .put)

@@ -1,0 +1,34 @@
+-- A variable's number below 2 ^ 31 as an i32, and its opposite; a literal of the file as an i32.
+-- Assumes nothing.
+use mathlib.Core.Path.{_≡_, refl, sym, _∙_, ap, subst}
+use Prim.Native.Nat.{ℕ, zero, suc, _<_, _^_}
+use native.Mathlib.Omega.{arith}
+use lib.IntN.{ℤ, pos, negsuc, negℤ, _-ℤ_, +ℤ-idl}
+use lib.Signed.{mag}
+use mir.Syntax.{w16, w32}
+use mir.Val.{SFits, toZ, ofZ}
+use mir.Facts.{toZ-ofZ}
+
+pub kept-on : (v : ℕ) → v < 2147483648 → toZ w32 v ≡ pos v
+kept-on v l = toZ-ofZ {w = w32} {z = pos v} (record { sfits = omega arith })
+
+pub off-fits : (v : ℕ) → v < 2147483648 → SFits w32 (negℤ (pos v))
+off-fits zero l = record { sfits = omega arith }
+off-fits (suc v) l = record { sfits = omega arith }
+
+pub kept-off : (v : ℕ) → v < 2147483648 → toZ w32 (ofZ w32 (negℤ (pos v))) ≡ negℤ (pos v)
+kept-off v l = toZ-ofZ (off-fits v l)
+
+-- the code's -(v as i32)
+pub minus-is : (v : ℕ) → v < 2147483648 → toZ w32 0 -ℤ toZ w32 v ≡ negℤ (pos v)
+minus-is v l = ap (λ z. toZ w32 0 -ℤ z) (kept-on v l) ∙ +ℤ-idl (negℤ (pos v))
+
+-- an i16 as an i32
+wider : (z : ℤ) → SFits w16 z → SFits w32 z
+wider z f = record { sfits = omega (arith, f .sfits) }
+
+pub wide-fits : (z : ℤ) → SFits w16 z → SFits w32 (toZ w16 (ofZ w16 z))
+wide-fits z f = subst (SFits w32) (sym (toZ-ofZ f)) (wider z f)
+
+pub wide-kept : (z : ℤ) → SFits w16 z → toZ w32 (ofZ w32 (toZ w16 (ofZ w16 z))) ≡ z
+wide-kept z f = ap (λ y. toZ w32 (ofZ w32 y)) (toZ-ofZ f) ∙ toZ-ofZ (wider z f)

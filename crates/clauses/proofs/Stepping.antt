@@ -1,0 +1,130 @@
+-- The blocks one atom after the other, as a loop meets them.
+-- Assumes nothing.
+use mathlib.Core.Path.{_≡_, refl, sym, _∙_, ap, ap₂}
+use mathlib.Core.List.{List, [], _∷_, _++_, append-assoc, append-nil}
+use Prim.Native.Nat.{ℕ, zero, suc, _+_, _*_, _-_, _≤_, _<_, min}
+use native.Mathlib.Omega.{arith}
+use native.Mathlib.Numerals.{add-one}
+use lib.IntN.{ℤ}
+use lib.ListN.{length, take, length-take}
+use Rattle.plan.specs.Meaning.{Edge, Atom, atom}
+use Rattle.plan.specs.Written.{each, flat, levels, levelsOf, blockVariables, blockClauses, blockNumbers, atomBlock, after, blocks, last}
+use Rattle.encoding.specs.Counts.{total}
+use Rattle.encoding.proofs.Each.{flat-append}
+use Rattle.encoding.proofs.Blocks.{last-ge}
+use Rattle.encoding.proofs.Sizes.{levels-le, total-le, block-variables-most, block-clauses-most, block-numbers-most}
+use Rattle.clauses.specs.declared.Counts.{Counts}
+use Rattle.clauses.specs.Rows.{blockRow, LowBlock, LowBlocks}
+use Rattle.clauses.specs.Writing.{Added, AddedOne, Few, InLimits, Countable}
+use Rattle.clauses.proofs.Rows.{atom-is}
+
+each-first : {A : Type 0} (n : ℕ) (f : ℕ → List A) → each (suc n) f ≡ f 0 ++ each n (λ i. f (suc i))
+unfolding each
+each-first zero f = sym (append-nil (f 0))
+each-first (suc n) f = ap (λ l. l ++ f (suc n)) (each-first n f) ∙ append-assoc (f 0) (each n (λ i. f (suc i))) (f (suc n))
+
+module _ (n : ℕ) (es : List Edge) where
+  -- the last variable before atom j's block
+  abbrev pub before : ℕ → List Atom → ℕ → ℕ
+  before base As j = last n es base (take j As)
+
+  pub blocks-each : (base : ℕ) (As : List Atom) → flat (blocks n es base As) ≡ each (length As) (λ j. flat (atomBlock n es (before base As j) (atom As j)))
+  unfolding blocks flat each last
+  blocks-each base [] = refl
+  blocks-each base (A ∷ As) =
+      flat-append (atomBlock n es base A) (blocks n es (after n es base A) As)
+      ∙ ap (λ l. flat (atomBlock n es base A) ++ l) (blocks-each (after n es base A) As)
+      ∙ sym (each-first (length As) (λ j. flat (atomBlock n es (before base (A ∷ As) j) (atom (A ∷ As) j))))
+
+  pub before-next : (base : ℕ) (As : List Atom) (j : ℕ) → j < length As → before base As (j + 1) ≡ after n es (before base As j) (atom As j)
+  unfolding last
+  before-next base [] j l = let z : ⊥ = omega arith in absurd z
+  before-next base (A ∷ As) zero l = refl
+  before-next base (A ∷ As) (suc j) l = rw add-one (ap (last n es (after n es base A)) (ap (λ k. take k As) (sym (add-one j))) ∙ before-next (after n es base A) As j (omega arith))
+
+  pub before-le : (base : ℕ) (As : List Atom) (j : ℕ) → before base As j ≤ last n es base As
+  unfolding last
+  before-le base [] zero = omega arith
+  before-le base [] (suc j) = omega arith
+  before-le base (A ∷ As) zero = omega (arith, last-ge n es (after n es base A) As)
+  before-le base (A ∷ As) (suc j) = before-le (after n es base A) As j
+
+-- a sum over the atoms up to j
+pub total-next : (size : ℕ → ℕ) (n : ℕ) (As : List Atom) (j : ℕ) → j < length As → total size n (take (j + 1) As) ≡ total size n (take j As) + size (levels n (atom As j))
+unfolding total
+total-next size n [] j l = let z : ⊥ = omega arith in absurd z
+total-next size n (A ∷ As) zero l = omega arith
+total-next size n (A ∷ As) (suc j) l = rw add-one (omega (arith, ap (λ k. total size n (take k As)) (sym (add-one j)) ∙ total-next size n As j (omega arith)))
+
+-- an atom's levels, by its kind
+module _ (n : ℕ) (A : Atom) where
+  pub levels-reaches : A .kind ≡ 1 → levels n A ≡ n - 1
+  unfolding levels
+  levels-reaches e = ap (λ k. levelsOf n k (A .bound)) e
+
+  pub levels-within : A .kind ≡ 2 → levels n A ≡ min (A .bound) (n - 1)
+  unfolding levels
+  levels-within e = ap (λ k. levelsOf n k (A .bound)) e
+
+  pub levels-none : (A .kind ≡ 1 → ⊥) → (A .kind ≡ 2 → ⊥) → levels n A ≡ 0
+  unfolding levels
+  levels-none h k = none (A .kind) h k
+    where
+      none : (kind : ℕ) → (kind ≡ 1 → ⊥) → (kind ≡ 2 → ⊥) → levelsOf n kind (A .bound) ≡ 0
+      none zero h k = refl
+      none (suc zero) h k = absurd (h refl)
+      none (suc (suc zero)) h k = absurd (k refl)
+      none (suc (suc (suc i))) h k = refl
+
+-- one turn of the loop over the atoms: where the next block starts, what it is, and that its numbers are low
+module _ (n : ℕ) (es : List Edge) (base : ℕ) (As : List Atom) (low : LowBlocks es n base As) (j : ℕ) (l : j < length As)
+    (b top : ℕ) (at : b ≡ before n es base As j) (A : Atom) (is : A ≡ atom As j) (levels-is : top ≡ levels n A) where
+  pub next-row : blockRow n es b top (A .from) (A .to) (A .variable) ≡ flat (atomBlock n es (before n es base As j) (atom As j))
+  next-row =
+      ap (λ L. blockRow n es b L (A .from) (A .to) (A .variable)) levels-is ∙ sym (atom-is n es b A)
+      ∙ ap₂ (λ x B. flat (atomBlock n es x B)) at is
+
+  pub next-before : b + blockVariables n (length es) top ≡ before n es base As (j + 1)
+  next-before =
+      ap₂ (λ x L. x + blockVariables n (length es) L) at (levels-is ∙ ap (levels n) is)
+      ∙ sym (before-next n es base As j l)
+
+  pub next-last : b + blockVariables n (length es) top < 1000000000
+  next-last = omega (arith, next-before, before-le n es base As (j + 1), low .last)
+
+  pub next-low : LowBlock es n b top
+  unfolding blockVariables
+  next-low = record { few = low .few; nodes = low .nodes; last = omega (arith, low .node, next-last) }
+
+  pub next-limits : InLimits n (length es) top
+  next-limits = record { nodes = low .nodes; edges = low .few; levels = omega (arith, levels-is, levels-le n A) }
+
+-- the counts up to atom j
+module _ (n : ℕ) (es : List Edge) (As : List Atom) (own counts : Counts) (can : Countable n es As own) (j : ℕ) (l : j < length As)
+    (added : Added n (length es) (take j As) own counts) (top : ℕ) (A : Atom) (is : A ≡ atom As j) (levels-is : top ≡ levels n A) where
+  pub limits : InLimits n (length es) top
+  limits = record { nodes = can .nodes; edges = can .edges; levels = omega (arith, levels-is, levels-le n A) }
+
+  pub few : Few counts
+  few =
+      let m = length es in
+      let k = length-take j As in
+      record {
+        variables = omega (arith, k, can .atoms, can .variables, added .variables, total-le (blockVariables n m) n 20224 (block-variables-most n m (can .nodes) (can .edges)) (take j As));
+        clauses = omega (arith, k, can .atoms, can .clauses, added .clauses, total-le (blockClauses n m) n 72642 (block-clauses-most n m (can .nodes) (can .edges)) (take j As));
+        numbers = omega (arith, k, can .atoms, can .numbers, added .numbers, total-le (blockNumbers n m) n 250118 (block-numbers-most n m (can .nodes) (can .edges)) (take j As));
+      }
+
+  pub added-next : (more : Counts) → AddedOne n (length es) top counts more → Added n (length es) (take (j + 1) As) own more
+  added-next more one =
+      let m = length es in
+      let e : top ≡ levels n (atom As j) = levels-is ∙ ap (levels n) is in
+      record {
+        variables = omega (arith, one .variables, added .variables, ap (blockVariables n m) e, total-next (blockVariables n m) n As j l);
+        clauses = omega (arith, one .clauses, added .clauses, ap (blockClauses n m) e, total-next (blockClauses n m) n As j l);
+        numbers = omega (arith, one .numbers, added .numbers, ap (blockNumbers n m) e, total-next (blockNumbers n m) n As j l);
+      }
+
+pub added-none : (n m : ℕ) (As : List Atom) (own : Counts) → Added n m (take 0 As) own own
+unfolding total
+added-none n m As own = record { variables = omega arith; clauses = omega arith; numbers = omega arith }
