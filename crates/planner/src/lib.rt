@@ -1,5 +1,6 @@
 use clauses::Writing;
 use judge::Verdict;
+use plan::Assignment;
 use plan::Atom;
 use plan::Clause;
 use plan::Edge;
@@ -8,10 +9,12 @@ use plan::Refusal;
 pub use reader::ReadAnswer;
 ghost use mathlib.Core.Path.{_≡_};
 ghost use lib.ListN.{length};
+ghost use Rattle.plan.specs.Search.{Assigned};
 ghost use Rattle.plan.specs.Tables.{planOf, Lent};
-ghost use Rattle.planner.specs.Refusing.{firstNot, taken};
+ghost use Rattle.planner.specs.Refusing.{clear, firstNot, taken};
 ghost use Rattle.planner.specs.Read.{ReadIs};
 ghost use Rattle.planner.specs.Judge.{judgeChecks, JudgeCase, JudgeIs};
+ghost use Rattle.planner.specs.Close.{closeChecks, CloseCase, ClosedIs};
 ghost use Rattle.planner.specs.Write.{writeChecks, WriteCase, WrittenIs};
 
 pub enum JudgeAnswer {
@@ -71,6 +74,25 @@ pub fn judge(file: &[u8], assignment: &[i8]) -> JudgeAnswer
             let b = plan.atoms * Atom::NUMBERS;
             let c = plan.literals + plan.clauses;
             judge_lent(plan, &edges[..e], &atoms[..b], &clauses[..c], assignment)
+        }
+    }
+}
+
+// Closes a partial assignment: what follows from it is written to `result`, or there is a clash.
+pub fn close(file: &[u8], given: &[i8], result: &mut [i8]) -> CloseAnswer
+    ensures { λ r. ⌜ ClosedIs (now (file .entry)) (now (given .entry)) (now (result .entry)) (now (result .exit)) r ⌝ }
+{
+    let mut edges = [0u16; Edge::TABLE];
+    let mut atoms = [0u16; Atom::TABLE];
+    let mut clauses = [0i16; Clause::TABLE];
+    let reading = reader::read_into(file, &mut edges, &mut atoms, &mut clauses);
+    match reading {
+        ReadAnswer::Refused(refusal) => CloseAnswer::Refused(refusal),
+        ReadAnswer::Accepted(plan) => {
+            let e = plan.edges * Edge::NUMBERS;
+            let b = plan.atoms * Atom::NUMBERS;
+            let c = plan.literals + plan.clauses;
+            close_lent(plan, &edges[..e], &atoms[..b], &clauses[..c], given, result)
         }
     }
 }
@@ -142,6 +164,43 @@ fn judge_lent(plan: Plan, edges: &[u16], atoms: &[u16], clauses: &[i16], assignm
         Verdict::Clause(number) => JudgeAnswer::Clause(number),
         Verdict::Atom(number) => JudgeAnswer::Atom(number),
     }
+}
+
+fn close_lent(plan: Plan, edges: &[u16], atoms: &[u16], clauses: &[i16], given: &[i8], result: &mut [i8]) -> CloseAnswer
+    requires { ⌜ Lent plan (now edges) (now atoms) (now clauses) ⌝ }
+    ensures { λ r. ⌜ CloseCase (closeChecks (now (given .entry)) (now (result .entry)) (planOf plan (now (edges .entry)) (now (atoms .entry)) (now (clauses .entry)))) (now (given .entry)) (now (result .entry)) (now (result .exit)) r ⌝ }
+{
+    let variables = plan::wide(plan.variables);
+    if given.len() != variables {
+        return CloseAnswer::Refused(Refusal::WrongLength(variables));
+    }
+    if result.len() != variables {
+        return CloseAnswer::Refused(Refusal::WrongLength(variables));
+    }
+    let place = first_not(given, true);
+    if place != given.len() {
+        return CloseAnswer::Refused(Refusal::BadValue(place));
+    }
+    close_into(plan, edges, atoms, clauses, given, result)
+}
+
+// Closes in a local copy, since a clash leaves the result as it was.
+fn close_into(plan: Plan, edges: &[u16], atoms: &[u16], clauses: &[i16], given: &[i8], result: &mut [i8]) -> CloseAnswer
+    requires { ⌜ Lent plan (now edges) (now atoms) (now clauses) ⌝ }
+    requires { ⌜ Assigned (plan .variables) (now given) ⌝ }
+    requires { ⌜ length (now result) ≡ plan .variables ⌝ }
+    ensures { λ r. ⌜ CloseCase (clear (planOf plan (now (edges .entry)) (now (atoms .entry)) (now (clauses .entry)))) (now (given .entry)) (now (result .entry)) (now (result .exit)) r ⌝ }
+{
+    let variables = given.len();
+    let open = Assignment::all_open();
+    let mut values = open.values;
+    copy(&mut values[..variables], given);
+    let clash = closing::close(plan, edges, atoms, clauses, &mut values[..variables]);
+    if clash {
+        return CloseAnswer::Clash;
+    }
+    copy(result, &values[..variables]);
+    CloseAnswer::Closed
 }
 
 fn write_lent(plan: Plan, edges: &[u16], atoms: &[u16], clauses: &[i16], out: &mut [i32]) -> WriteAnswer

@@ -1,0 +1,4 @@
+pub mod Closed
+pub mod Clauses
+pub mod Atoms
+pub mod Rounds
