@@ -2,6 +2,7 @@ pub mod Reading
 pub mod Unique
 pub mod Places
 pub mod Stating
+pub mod Reasons
 pub mod Writing
 pub mod Demand2
 pub mod Demand3

@@ -7,6 +7,7 @@ use plan::Edge;
 use plan::Plan;
 use plan::Refusal;
 pub use reader::ReadAnswer;
+use reason::Answer;
 ghost use mathlib.Core.Path.{_≡_};
 ghost use lib.ListN.{length};
 ghost use Rattle.plan.specs.Search.{Assigned};
@@ -15,6 +16,7 @@ ghost use Rattle.planner.specs.Refusing.{clear, firstNot, taken};
 ghost use Rattle.planner.specs.Read.{ReadIs};
 ghost use Rattle.planner.specs.Judge.{judgeChecks, JudgeCase, JudgeIs};
 ghost use Rattle.planner.specs.Close.{closeChecks, CloseCase, ClosedIs};
+ghost use Rattle.planner.specs.Explain.{reasonChecks, ReasonCase, ExplainedIs};
 ghost use Rattle.planner.specs.Write.{writeChecks, WriteCase, WrittenIs};
 
 pub enum JudgeAnswer {
@@ -93,6 +95,25 @@ pub fn close(file: &[u8], given: &[i8], result: &mut [i8]) -> CloseAnswer
             let b = plan.atoms * Atom::NUMBERS;
             let c = plan.literals + plan.clauses;
             close_lent(plan, &edges[..e], &atoms[..b], &clauses[..c], given, result)
+        }
+    }
+}
+
+// The reason why an atom holds or fails under a partial assignment, as a clause; or that it is open. Atoms are numbered from 1.
+pub fn reason(file: &[u8], assignment: &[i8], atom: usize, out: &mut [i16]) -> ReasonAnswer
+    ensures { λ r. ⌜ ExplainedIs (now (file .entry)) (now (assignment .entry)) atom (now (out .entry)) (now (out .exit)) r ⌝ }
+{
+    let mut edges = [0u16; Edge::TABLE];
+    let mut atoms = [0u16; Atom::TABLE];
+    let mut clauses = [0i16; Clause::TABLE];
+    let reading = reader::read_into(file, &mut edges, &mut atoms, &mut clauses);
+    match reading {
+        ReadAnswer::Refused(refusal) => ReasonAnswer::Refused(refusal),
+        ReadAnswer::Accepted(plan) => {
+            let e = plan.edges * Edge::NUMBERS;
+            let b = plan.atoms * Atom::NUMBERS;
+            let c = plan.literals + plan.clauses;
+            reason_lent(plan, &edges[..e], &atoms[..b], &clauses[..c], assignment, atom, out)
         }
     }
 }
@@ -201,6 +222,34 @@ fn close_into(plan: Plan, edges: &[u16], atoms: &[u16], clauses: &[i16], given: 
     }
     copy(result, &values[..variables]);
     CloseAnswer::Closed
+}
+
+fn reason_lent(plan: Plan, edges: &[u16], atoms: &[u16], clauses: &[i16], assignment: &[i8], atom: usize, out: &mut [i16]) -> ReasonAnswer
+    requires { ⌜ Lent plan (now edges) (now atoms) (now clauses) ⌝ }
+    ensures { λ r. ⌜ ReasonCase (reasonChecks (now (assignment .entry)) atom (planOf plan (now (edges .entry)) (now (atoms .entry)) (now (clauses .entry)))) (now (assignment .entry)) atom (now (out .entry)) (now (out .exit)) r ⌝ }
+{
+    let variables = plan::wide(plan.variables);
+    if assignment.len() != variables {
+        return ReasonAnswer::Refused(Refusal::WrongLength(variables));
+    }
+    let place = first_not(assignment, true);
+    if place != assignment.len() {
+        return ReasonAnswer::Refused(Refusal::BadValue(place));
+    }
+    let count = plan.atoms;
+    if atom == 0 {
+        return ReasonAnswer::Refused(Refusal::NoSuchAtom(count));
+    }
+    if atom > count {
+        return ReasonAnswer::Refused(Refusal::NoSuchAtom(count));
+    }
+    let answer = reason::reason(edges, atoms, assignment, atom - 1, out);
+    match answer {
+        Answer::Holds(number) => ReasonAnswer::Holds(number),
+        Answer::Fails(number) => ReasonAnswer::Fails(number),
+        Answer::Open => ReasonAnswer::Open,
+        Answer::Short(needed) => ReasonAnswer::Refused(Refusal::NoRoom(needed)),
+    }
 }
 
 fn write_lent(plan: Plan, edges: &[u16], atoms: &[u16], clauses: &[i16], out: &mut [i32]) -> WriteAnswer

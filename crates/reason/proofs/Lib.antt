@@ -1,0 +1,4 @@
+pub mod Paths
+pub mod Cuts
+pub mod Listing
+pub mod Answering
