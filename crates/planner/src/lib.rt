@@ -8,6 +8,7 @@ use plan::Plan;
 use plan::Refusal;
 pub use reader::ReadAnswer;
 use reason::Answer;
+use search::Found;
 ghost use mathlib.Core.Path.{_≡_};
 ghost use lib.ListN.{length};
 ghost use Rattle.plan.specs.Search.{Assigned};
@@ -17,6 +18,7 @@ ghost use Rattle.planner.specs.Read.{ReadIs};
 ghost use Rattle.planner.specs.Judge.{judgeChecks, JudgeCase, JudgeIs};
 ghost use Rattle.planner.specs.Close.{closeChecks, CloseCase, ClosedIs};
 ghost use Rattle.planner.specs.Explain.{reasonChecks, ReasonCase, ExplainedIs};
+ghost use Rattle.planner.specs.Find.{searchChecks, SearchCase, SearchedIs};
 ghost use Rattle.planner.specs.Write.{writeChecks, WriteCase, WrittenIs};
 
 pub enum JudgeAnswer {
@@ -114,6 +116,26 @@ pub fn reason(file: &[u8], assignment: &[i8], atom: usize, out: &mut [i16]) -> R
             let b = plan.atoms * Atom::NUMBERS;
             let c = plan.literals + plan.clauses;
             reason_lent(plan, &edges[..e], &atoms[..b], &clauses[..c], assignment, atom, out)
+        }
+    }
+}
+
+// Searches for the first plan, off before on, variable 1 weighing most: it is written to `result`, or there is none, or the budget of
+// branchings did not decide it.
+pub fn search(file: &[u8], budget: u32, result: &mut [i8]) -> SearchAnswer
+    ensures { λ r. ⌜ SearchedIs (now (file .entry)) budget (now (result .entry)) (now (result .exit)) r ⌝ }
+{
+    let mut edges = [0u16; Edge::TABLE];
+    let mut atoms = [0u16; Atom::TABLE];
+    let mut clauses = [0i16; Clause::TABLE];
+    let reading = reader::read_into(file, &mut edges, &mut atoms, &mut clauses);
+    match reading {
+        ReadAnswer::Refused(refusal) => SearchAnswer::Refused(refusal),
+        ReadAnswer::Accepted(plan) => {
+            let e = plan.edges * Edge::NUMBERS;
+            let b = plan.atoms * Atom::NUMBERS;
+            let c = plan.literals + plan.clauses;
+            search_lent(plan, &edges[..e], &atoms[..b], &clauses[..c], budget, result)
         }
     }
 }
@@ -249,6 +271,22 @@ fn reason_lent(plan: Plan, edges: &[u16], atoms: &[u16], clauses: &[i16], assign
         Answer::Fails(number) => ReasonAnswer::Fails(number),
         Answer::Open => ReasonAnswer::Open,
         Answer::Short(needed) => ReasonAnswer::Refused(Refusal::NoRoom(needed)),
+    }
+}
+
+fn search_lent(plan: Plan, edges: &[u16], atoms: &[u16], clauses: &[i16], budget: u32, result: &mut [i8]) -> SearchAnswer
+    requires { ⌜ Lent plan (now edges) (now atoms) (now clauses) ⌝ }
+    ensures { λ r. ⌜ SearchCase (searchChecks (now (result .entry)) (planOf plan (now (edges .entry)) (now (atoms .entry)) (now (clauses .entry)))) budget (now (result .entry)) (now (result .exit)) r ⌝ }
+{
+    let variables = plan::wide(plan.variables);
+    if result.len() != variables {
+        return SearchAnswer::Refused(Refusal::WrongLength(variables));
+    }
+    let found = search::search(plan, edges, atoms, clauses, budget, result);
+    match found {
+        Found::Plan(branchings) => SearchAnswer::Plan(branchings),
+        Found::Impossible(branchings) => SearchAnswer::Impossible(branchings),
+        Found::Undecided(branchings) => SearchAnswer::Undecided(branchings),
     }
 }
 

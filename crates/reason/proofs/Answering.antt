@@ -2,8 +2,8 @@
 -- Assumes nothing.
 use mathlib.Core.Path.{_≡_, refl, sym, ap, subst, _∙_}
 use mathlib.Core.Logic.{_↔_, _⊎_, inl, inr, ⊎-elim}
-use mathlib.Core.Bool.{Bool, true, false, not, true≢false, false≢true}
-use mathlib.Core.List.{List, [], _∷_, _++_, map, List·Memᴰ}
+use mathlib.Core.Bool.{Bool, true, false, true≢false, false≢true}
+use mathlib.Core.List.{List, _++_, List·Memᴰ}
 use Prim.Native.Nat.{ℕ, zero, suc, _+_, _≤_, _<_}
 use native.Mathlib.Omega.{arith}
 use lib.ListN.{length, getD, drop, replicate}
@@ -12,13 +12,13 @@ use lib.Dec.{T}
 use Rattle.plan.specs.Meaning.{Edge, Atom, PlanFile, Graph, edge, IsTrueAt, IsTrue, on, off, trueIn, under, over}
 use Rattle.plan.specs.Meaning as meaning
 use Rattle.plan.specs.Closing.{HoldsIn, FailsIn}
-use Rattle.plan.specs.Reason.{holds, fails, Cut, HoldsBy, FailsBy, ReasonIs}
+use Rattle.plan.specs.Reason.{Cut, HoldsBy, FailsBy}
 use Rattle.plan.proofs.Walks.{mem-at}
 use Rattle.walk.specs.Hopping.{bit, Placed, HopTable}
 use Rattle.walk.specs.declared.Hops.{Hops}
 use Rattle.walk.proofs.Truths.{hops-reached}
 use Rattle.reason.specs.Answers.{Given, TooShort, AnswerIs, Wrote}
-use Rattle.reason.specs.Marks.{PathMarked, CutBelow, literalOf, premises, Starts}
+use Rattle.reason.specs.Marks.{PathMarked, CutBelow, premises, Starts}
 use Rattle.reason.specs.declared.Answer.{Answer}
 use Rattle.reason.specs.declared.Answer.the-variants.{Holds, Fails, Open, Short}
 use Rattle.reason.proofs.Paths.{path-placed}

@@ -5,13 +5,12 @@ use mathlib.Core.Logic.{_↔_, _⊎_, inl, inr, ⊎-elim}
 use mathlib.Core.Bool.{Bool, true, false, not}
 use mathlib.Core.List.{List}
 use Prim.Native.Nat.{ℕ, zero, suc, _+_, _-_, _≤_, _<_}
-use native.Mathlib.Decide.{ℕ-discrete, decLt}
+use native.Mathlib.Decide.{decLt}
 use native.Mathlib.Omega.{arith}
 use lib.ListN.{length, getD, set, replicate}
 use lib.IntN.{ℤ}
 use lib.Dec.{T, T-not, not-T, ltb, ltb→lt, lt→ltb}
 use Rattle.plan.specs.Meaning.{Edge, Atom, PlanFile, Graph, edge, Reaches, trueIn, off, over}
-use Rattle.plan.specs.Meaning as meaning
 use Rattle.plan.specs.Reason.{Across, Cut}
 use Rattle.walk.specs.Hopping.{bit, HopTable}
 use Rattle.walk.specs.declared.Hops.{Hops}

@@ -18,7 +18,7 @@ use Rattle.plan.proofs.Walks.{mem-at}
 use Rattle.plan.proofs.Explain.{last-nearer}
 use Rattle.walk.specs.Hopping.{bit, Placed, HopTable}
 use Rattle.walk.specs.declared.Hops.{Hops}
-use Rattle.walk.proofs.Truths.{reached-hops, hops-reached, hops-count}
+use Rattle.walk.proofs.Truths.{hops-reached, hops-count}
 use Rattle.reason.specs.Marks.{MarksAlso, Distant, PathMarked}
 
 -- ---- marks

@@ -3,12 +3,12 @@
 use mathlib.Core.Path.{_≡_}
 use mathlib.Core.Logic.{_↔_, _⊎_}
 use mathlib.Core.Bool.{Bool, true, false}
-use mathlib.Core.List.{List, [], _∷_, _++_, map, List·Memᴰ}
-use Prim.Native.Nat.{ℕ, zero, suc, _+_, _≤_, _<_}
+use mathlib.Core.List.{List, [], _∷_, _++_, List·Memᴰ}
+use Prim.Native.Nat.{ℕ, suc, _+_, _<_}
 use lib.ListN.{length, getD, take, drop}
 use lib.IntN.{ℤ}
 use lib.Dec.{T}
-use Rattle.plan.specs.Meaning.{Edge, Atom, PlanFile, Graph, edge, on, off, trueIn, under, over}
+use Rattle.plan.specs.Meaning.{Edge, Atom, edge, on, off, trueIn, under, over}
 use Rattle.plan.specs.Meaning as meaning
 use Rattle.plan.specs.Reason.{Smallest, Nearer, Back, Across}
 use Rattle.walk.specs.Hopping.{HopTable}

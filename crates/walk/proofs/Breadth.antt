@@ -2,16 +2,14 @@
 -- is used up.
 -- Assumes nothing.
 use mathlib.Core.Path.{_≡_, refl, sym, ap, _∙_, subst, subst₂}
-use mathlib.Core.Logic.{_⊎_, inl, inr, ⊎-elim}
-use mathlib.Core.Bool.{Bool, not, _&&_, _||_}
+use mathlib.Core.Logic.{_⊎_, ⊎-elim}
+use mathlib.Core.Bool.{_&&_}
 use mathlib.Core.List.{List}
 use Prim.Native.Nat.{ℕ, zero, suc, _+_, _-_, _^_, _<_, _≤_}
-use native.Mathlib.Decide.{ℕ-discrete, decLt}
-use native.Mathlib.Numerals.{add-one}
+use native.Mathlib.Decide.{decLt}
 use native.Mathlib.Omega.{arith}
 use lib.Bits.{bitAnd, bitOr, or-lt, and-le-r}
 use lib.ListN.{length, getD, set, replicate}
-use lib.Seq.{getD-set-same, getD-set-other}
 use lib.Arith.{lt-one}
 use lib.Pow.{pow-lt}
 use lib.Dec.{T, T-not, not-T}
@@ -19,10 +17,10 @@ use Rattle.plan.specs.Meaning.{Edge, Graph, Leads, Walk, stay, hop}
 use Rattle.plan.specs.Meaning as meaning
 use Rattle.plan.proofs.Bools.{T?, or-cases, or-left, or-right, and-both, and-left, and-right}
 use Rattle.plan.proofs.Walks.{its-in}
-use Rattle.walk.specs.Hopping.{bit, Inside, Neighbours, HopTable, Walked}
+use Rattle.walk.specs.Hopping.{bit, Inside, Neighbours, HopTable}
 use Rattle.walk.specs.Front.{size, Visited}
 use Rattle.walk.specs.declared.Hops.{Hops}
-use Rattle.walk.proofs.Sets.{bit-inside, bit-one, bit-or, bit-and, bit-not, size-or, size-one, size-le}
+use Rattle.walk.proofs.Sets.{zeros, bit-inside, bit-one, bit-or, bit-and, bit-not, size-or, size-one, size-le}
 
 -- A walk from s over the sets of neighbours.
 pub data Trail (sets : List ℕ) (s : ℕ) : ℕ → ℕ → Type 0 where
@@ -58,11 +56,6 @@ module _ {sets : List ℕ} {s reached : ℕ} {counts queue : List ℕ} {tail hea
   count-in = omega (arith, b .low head room, tail-le b)
 
 -- ---- where the walk begins
-
-zeros : (n i : ℕ) → _≡_ {A = ℕ} (getD (replicate n 0) i 0) 0
-zeros zero i = refl
-zeros (suc n) zero = refl
-zeros (suc n) (suc i) = zeros n i
 
 pub begin : (sets : List ℕ) (s reached : ℕ) → s < 64 → reached ≡ 2 ^ s → Bfs sets s reached (replicate 64 0) (set (replicate 64 0) 0 s) 1 0
 begin sets s reached l e = record {

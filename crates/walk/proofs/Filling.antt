@@ -1,8 +1,8 @@
 -- The sets of neighbours, filled edge by edge.
 -- Assumes nothing.
 use mathlib.Core.Path.{_≡_, refl, sym, ap, subst, _∙_}
-use mathlib.Core.Logic.{_↔_, _⊎_, inl, inr, ⊎-elim}
-use mathlib.Core.Bool.{Bool, not}
+use mathlib.Core.Logic.{_⊎_, inl, inr, ⊎-elim}
+use mathlib.Core.Bool.{not}
 use mathlib.Core.List.{List, [], _∷_}
 use Prim.Native.Nat.{ℕ, zero, suc, _+_, _*_, _-_, _^_, _<_, _≤_}
 use native.Mathlib.Decide.{ℕ-discrete, decLt}
@@ -10,18 +10,18 @@ use native.Mathlib.Omega.{arith}
 use lib.Bits.{bitOr}
 use lib.ListN.{length, getD, set, length-set, replicate}
 use lib.Seq.{getD-set-same, getD-set-other}
-use lib.IntN.{ℤ, pos, negsuc}
-use lib.Dec.{T, eqb, eqb→eq, eqb-refl}
+use lib.IntN.{ℤ, pos}
+use lib.Dec.{T, eqb, eqb→eq}
 use mir.Syntax.{w8}
 use mir.Val.{SFits, ofZ}
-use Rattle.plan.specs.Meaning.{Edge, Graph, edge, Leads, value, isOn, isOff, trueIn, on, off}
+use Rattle.plan.specs.Meaning.{Edge, Graph, edge, value, isOn, isOff, trueIn, on, off}
 use Rattle.plan.specs.Tables.{edgesOf}
 use Rattle.plan.proofs.Add.{on-one, off-one}
 use Rattle.plan.proofs.Bools.{T-same, or-cases, or-left, or-right}
 use Rattle.plan.proofs.Signs.{bits-eq}
 use Rattle.walk.specs.Hopping.{bit, Neighbours}
 use Rattle.walk.specs.Front.{LeadsBelow, UpTo}
-use Rattle.walk.proofs.Sets.{bit-empty, bit-or, bit-one}
+use Rattle.walk.proofs.Sets.{zeros, bit-empty, bit-or, bit-one}
 
 -- ---- whether an edge is in the graph
 
@@ -68,11 +68,6 @@ within-listed (f ∷ t ∷ v ∷ r) zero h = omega arith
 within-listed (f ∷ t ∷ v ∷ r) (suc k) h = omega (arith, within-listed r k (omega arith))
 
 -- ---- one edge more
-
-zeros : (n i : ℕ) → _≡_ {A = ℕ} (getD (replicate n 0) i 0) 0
-zeros zero i = refl
-zeros (suc n) zero = refl
-zeros (suc n) (suc i) = zeros n i
 
 pub filled-none : (es : List Edge) (g : Graph) → UpTo es g 0 (replicate 64 0)
 filled-none es g = record {

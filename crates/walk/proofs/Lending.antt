@@ -2,10 +2,10 @@
 -- Assumes nothing.
 use mathlib.Core.Path.{_≡_}
 use mathlib.Core.List.{List, List·Memᴰ}
-use Prim.Native.Nat.{ℕ, _≤_, _<_}
+use Prim.Native.Nat.{ℕ, _<_}
 use native.Mathlib.Omega.{arith}
 use lib.IntN.{ℤ}
-use Rattle.plan.specs.Meaning.{Edge, Atom}
+use Rattle.plan.specs.Meaning.{Atom}
 use Rattle.plan.specs.Tables.{edgesOf, atomsOf, Lent}
 use Rattle.plan.specs.declared.Plan.{Plan}
 use Rattle.walk.specs.Hopping.{Inside, Placed}

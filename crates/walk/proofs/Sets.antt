@@ -1,16 +1,17 @@
 -- Laws of a set of nodes as the binary digits of one number: the code's shifts and bit operations, and how many nodes a set has.
 -- Assumes nothing.
-use mathlib.Core.Path.{_≡_, refl, sym, ap, ap₂, _∙_, subst}
+use mathlib.Core.Path.{_≡_, refl, sym, ap, _∙_, subst}
 use mathlib.Core.Logic.{_≢_, _↔_}
-use mathlib.Core.Bool.{Bool, true, false, not, _&&_, _||_}
+use mathlib.Core.Bool.{not, _&&_, _||_}
 use Prim.Native.Nat.{ℕ, zero, suc, _+_, _*_, _-_, _/_, _%_, _^_, _<_, _≤_, min, max}
-use native.Mathlib.Nat.{pow-suc, div-div-eq-div-mul, mod-lt, zero-lt-suc}
+use native.Mathlib.Nat.{pow-suc, div-div-eq-div-mul}
 use native.Mathlib.Omega.{arith}
-use borrow.Author.Tests.{eqb-true, eqb-false, eq-eqb, ne-eqb}
+use borrow.Author.Tests.{eq-eqb, ne-eqb}
 use lib.Bits.{bitAnd, bitOr, and-step, or-step}
 use lib.Count.{trailingZeros, under}
+use lib.ListN.{getD, replicate}
 use lib.Dec.{T, eqb, eqb→eq}
-use lib.Pow.{pow-lt, pow-pos}
+use lib.Pow.{pow-lt}
 use Rattle.walk.specs.Hopping.{bit}
 use Rattle.walk.specs.Front.{sizeIn}
 
@@ -194,3 +195,9 @@ pub size-one : (k i : ℕ) → i < k → sizeIn k (2 ^ i) ≡ 1
 size-one k i l =
     let e : 2 ^ i - 2 ^ i ≡ 0 = omega arith in
     size-less k i (2 ^ i) l (bit-one i i .1 refl) ∙ ap (λ (y : ℕ). suc (sizeIn k y)) e ∙ ap suc (size-empty k)
+
+-- a table of empty sets
+pub zeros : (n i : ℕ) → _≡_ {A = ℕ} (getD (replicate n 0) i 0) 0
+zeros zero i = refl
+zeros (suc n) zero = refl
+zeros (suc n) (suc i) = zeros n i

@@ -123,14 +123,12 @@ pub fn is_true(atom: Atom, hops: Hops) -> bool
         return false;
     }
     let kind = atom.kind;
-    if kind == 1 {
-        return true;
-    }
-    if kind != 2 {
-        return false;
-    }
     let count = hops.counts[to];
-    count as u16 <= atom.bound
+    match kind {
+        1 => true,
+        2 => count as u16 <= atom.bound,
+        _ => false,
+    }
 }
 
 // What an assignment says of an atom, by the hops from its source in the under graph and in the over graph.

@@ -12,8 +12,6 @@ use Rattle.plan.proofs.Signs.{bits-eq}
 use Rattle.judge.proofs.Clauses.{table-ended}
 use Rattle.judge.proofs.end_of.Statement.{statement}
 use Rattle.judge.proofs.end_of.Tie as tie
-use Rattle.judge.proofs.end_of.Reads as reads
-use Rattle.judge.proofs.end_of.Lts as lts
 
 abbrev Inv-loop : tie.InvT-loop
 Inv-loop clauses from at₀ at = (from ≤ at) × (at < length clauses) × ((k : ℕ) → from ≤ k → k < at → getD clauses k (pos 0) ≡ pos 0 → ⊥)

@@ -1,6 +1,6 @@
-use mathlib.Core.Path.{refl, sym, subst}
+use mathlib.Core.Path.{refl}
 use mathlib.Core.List.{List, _∷_, List·Memᴰ·head}
-use Prim.Native.Nat.{suc, _+_, _-_, _≤_}
+use Prim.Native.Nat.{_+_, _-_, _≤_}
 use native.Mathlib.Numerals.{add-one}
 use native.Mathlib.Omega.{arith}
 use borrow.Author.Needs.{needs}
@@ -14,10 +14,6 @@ use Rattle.judge.proofs.Passing.{Passed, start, next, passed-mem, passe
 use Rattle.judge.proofs.Clauses.{clause-next, no-clauses}
 use Rattle.judge.proofs.first_untrue.Statement.{statement}
 use Rattle.judge.proofs.first_untrue.Tie as tie
-use Rattle.judge.proofs.first_untrue.Reads as reads
-use Rattle.judge.proofs.first_untrue.Lts as lts
-use Rattle.judge.proofs.end_of.Reads as end-of-reads
-use Rattle.judge.proofs.has_true.Reads as has-true-reads
 
 abbrev Inv-loop : tie.InvT-loop
 Inv-loop assignment clauses at₀ number₀ at number = (at ≤ length clauses) × (number ≤ at) × Passed (HasTrue assignment) (clausesOf clauses) number (clausesOf (drop at clauses))

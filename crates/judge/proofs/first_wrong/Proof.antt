@@ -19,14 +19,6 @@ use Rattle.judge.specs.Verdicts.{RightIn}
 use Rattle.judge.proofs.Passing.{Passed, start, next, passed-none, passed-here}
 use Rattle.judge.proofs.first_wrong.Statement.{statement}
 use Rattle.judge.proofs.first_wrong.Tie as tie
-use Rattle.judge.proofs.first_wrong.Reads as reads
-use Rattle.judge.proofs.first_wrong.Lts as lts
-use Rattle.judge.proofs.hops_from.Reads as hops-from-reads
-use Rattle.judge.proofs.is_right.Reads as is-right-reads
-use Rattle.plan.proofs.atom_at.Reads as atom-at-reads
-use Rattle.plan.proofs.wide.Reads as wide-reads
-use Rattle.walk.proofs.neighbours.Reads as neighbours-reads
-use Rattle.walk.proofs.walk.Reads as walk-reads
 
 abbrev Inv-loop : tie.InvT-loop
 Inv-loop edges atoms count assignment neighbours source₀ hops₀ number₀ source hops number = (number ≤ count) × Walked neighbours source hops × Passed (RightIn (edgesOf edges) assignment) (atomsOf atoms) number (drop number (atomsOf atoms))

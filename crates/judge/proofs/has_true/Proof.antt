@@ -4,7 +4,7 @@ use borrow.Author.Needs.{needs}
 use borrow.Author.Count.{below-more}
 use lib.IntN.{ℤ}
 use mir.Syntax.{w8, w16}
-use mir.Val.{SFits, toZ, ofZ}
+use mir.Val.{SFits, ofZ}
 use mir.Facts.{toZ-ofZ}
 use Rattle.plan.proofs.Walks.{mem-at, at-mem}
 use Rattle.plan.proofs.Signs.{bits-eq}
@@ -18,9 +18,6 @@ use lib.Dec.{T}
 use Rattle.plan.specs.Meaning.{trueIn}
 use Rattle.judge.proofs.has_true.Statement.{statement}
 use Rattle.judge.proofs.has_true.Tie as tie
-use Rattle.judge.proofs.has_true.Reads as reads
-use Rattle.judge.proofs.has_true.Lts as lts
-use Rattle.plan.proofs.value_of.Reads as value-of-reads
 
 abbrev Inv-loop : tie.InvT-loop
 Inv-loop assignment clause k₀ k = (k ≤ length clause) × ((i : ℕ) → i < k → T (trueIn assignment (getD clause i (pos 0))) → ⊥)

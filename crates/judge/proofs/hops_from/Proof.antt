@@ -4,9 +4,6 @@ use Rattle.walk.specs.Hopping.{HopTable}
 use borrow.Author.Needs.{needs}
 use Rattle.judge.proofs.hops_from.Statement.{statement}
 use Rattle.judge.proofs.hops_from.Tie as tie
-use Rattle.judge.proofs.hops_from.Reads as reads
-use Rattle.judge.proofs.hops_from.Lts as lts
-use Rattle.walk.proofs.walk.Reads as walk-reads
 
 returns : tie.Need-returns
 returns c = λ es g inside n. subst (λ (s : ℕ). HopTable es g s (c .before .args .hops)) (sym (c .if1 .taken)) (c .before .pre .1 es g inside n)

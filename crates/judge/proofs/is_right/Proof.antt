@@ -3,10 +3,6 @@ use Rattle.judge.proofs.Rights.{right-on, right-off, value-one, value-e
 use borrow.Author.Needs.{needs}
 use Rattle.judge.proofs.is_right.Statement.{statement}
 use Rattle.judge.proofs.is_right.Tie as tie
-use Rattle.judge.proofs.is_right.Reads as reads
-use Rattle.judge.proofs.is_right.Lts as lts
-use Rattle.plan.proofs.wide.Reads as wide-reads
-use Rattle.walk.proofs.is_true.Reads as is-true-reads
 
 is-true-requires : tie.Need-is-true-requires
 is-true-requires c κs = search needs

@@ -7,10 +7,6 @@ use Rattle.judge.proofs.Lending.{full-assigned, few, lent-clauses, lent
 use borrow.Author.Needs.{needs}
 use Rattle.judge.proofs.judge.Statement.{statement}
 use Rattle.judge.proofs.judge.Tie as tie
-use Rattle.judge.proofs.judge.Reads as reads
-use Rattle.judge.proofs.judge.Lts as lts
-use Rattle.judge.proofs.first_untrue.Reads as first-untrue-reads
-use Rattle.judge.proofs.first_wrong.Reads as first-wrong-reads
 
 first-untrue-requires : tie.Need-first-untrue-requires
 first-untrue-requires c κs =

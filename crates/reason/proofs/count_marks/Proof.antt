@@ -7,9 +7,6 @@ use Rattle.reason.specs.Marks.{premises}
 use Rattle.reason.proofs.Listing.{premises-zero, premises-count, premises-most}
 use Rattle.reason.proofs.count_marks.Statement.{statement}
 use Rattle.reason.proofs.count_marks.Tie as tie
-use Rattle.reason.proofs.count_marks.Reads as reads
-use Rattle.reason.proofs.count_marks.Lts as lts
-use Rattle.reason.proofs.one_if.Reads as one-if-reads
 
 abbrev Inv-loop : tie.InvT-loop
 Inv-loop marks variables count₀ v₀ count v = (v ≤ variables) × (count ≡ length (premises marks v))

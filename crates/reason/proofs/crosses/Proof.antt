@@ -10,12 +10,6 @@ use Rattle.reason.proofs.Cuts.{off-of, not-off, across-unreached, acros
 use borrow.Author.Needs.{needs}
 use Rattle.reason.proofs.crosses.Statement.{statement}
 use Rattle.reason.proofs.crosses.Tie as tie
-use Rattle.reason.proofs.crosses.Reads as reads
-use Rattle.reason.proofs.crosses.Lts as lts
-use Rattle.plan.proofs.wide.Reads as wide-reads
-use Rattle.reason.proofs.widened.Reads as widened-reads
-use Rattle.walk.proofs.has.Reads as has-reads
-use Rattle.walk.proofs.is_present.Reads as is-present-reads
 
 is-present-requires : tie.Need-is-present-requires
 is-present-requires c κs = search needs

@@ -1,10 +1,6 @@
 use borrow.Author.Needs.{needs}
 use Rattle.reason.proofs.hops_from.Statement.{statement}
 use Rattle.reason.proofs.hops_from.Tie as tie
-use Rattle.reason.proofs.hops_from.Reads as reads
-use Rattle.reason.proofs.hops_from.Lts as lts
-use Rattle.walk.proofs.neighbours.Reads as neighbours-reads
-use Rattle.walk.proofs.walk.Reads as walk-reads
 
 neighbours-requires : tie.Need-neighbours-requires
 neighbours-requires c κs = search needs

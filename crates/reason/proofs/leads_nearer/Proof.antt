@@ -9,11 +9,6 @@ use Rattle.reason.proofs.Paths.{nearer-unreached, nearer-count}
 use borrow.Author.Needs.{needs}
 use Rattle.reason.proofs.leads_nearer.Statement.{statement}
 use Rattle.reason.proofs.leads_nearer.Tie as tie
-use Rattle.reason.proofs.leads_nearer.Reads as reads
-use Rattle.reason.proofs.leads_nearer.Lts as lts
-use Rattle.plan.proofs.wide.Reads as wide-reads
-use Rattle.walk.proofs.has.Reads as has-reads
-use Rattle.walk.proofs.is_present.Reads as is-present-reads
 
 wide-requires : tie.Need-wide-requires
 wide-requires c κs = search needs

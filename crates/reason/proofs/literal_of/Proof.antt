@@ -6,9 +6,6 @@ use mir.Facts.{toZ-ofZ}
 use borrow.Author.Needs.{needs}
 use Rattle.reason.proofs.literal_of.Statement.{statement}
 use Rattle.reason.proofs.literal_of.Tie as tie
-use Rattle.reason.proofs.literal_of.Reads as reads
-use Rattle.reason.proofs.literal_of.Lts as lts
-use Rattle.plan.proofs.opposite.Reads as opposite-reads
 
 cast-literal : tie.Need-cast-literal
 cast-literal c = search needs

@@ -9,9 +9,6 @@ use Rattle.reason.specs.Marks.{MarksCut}
 use Rattle.reason.proofs.Cuts.{cut-start, cut-end}
 use Rattle.reason.proofs.mark_cut.Statement.{statement}
 use Rattle.reason.proofs.mark_cut.Tie as tie
-use Rattle.reason.proofs.mark_cut.Reads as reads
-use Rattle.reason.proofs.mark_cut.Lts as lts
-use Rattle.reason.proofs.mark_edge.Reads as mark-edge-reads
 
 abbrev Inv-loop : tie.InvT-loop
 Inv-loop edges assignment atom hops marks₀ total k₀ marks k = (k ≤ total) × (length marks ≡ 512) × MarksCut k (edgesOf edges) assignment (atomOf atom) hops marks

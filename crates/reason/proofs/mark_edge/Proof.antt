@@ -1,6 +1,6 @@
-use mathlib.Core.Path.{_≡_, refl, sym, ap, subst, _∙_}
+use mathlib.Core.Path.{refl, sym, ap, subst, _∙_}
 use mathlib.Core.List.{List·Memᴰ}
-use Prim.Native.Nat.{_<_, _≤_}
+use Prim.Native.Nat.{_<_}
 use native.Mathlib.Omega.{arith}
 use borrow.Author.Tests.{not-true, not-false}
 use lib.ListN.{length, length-set}
@@ -12,11 +12,6 @@ use Rattle.reason.proofs.Cuts.{Crossing, cut-skip, cut-put}
 use borrow.Author.Needs.{needs}
 use Rattle.reason.proofs.mark_edge.Statement.{statement}
 use Rattle.reason.proofs.mark_edge.Tie as tie
-use Rattle.reason.proofs.mark_edge.Reads as reads
-use Rattle.reason.proofs.mark_edge.Lts as lts
-use Rattle.plan.proofs.edge_at.Reads as edge-at-reads
-use Rattle.plan.proofs.wide.Reads as wide-reads
-use Rattle.reason.proofs.crosses.Reads as crosses-reads
 
 edge-at-requires : tie.Need-edge-at-requires
 edge-at-requires c κs = search needs

@@ -1,11 +1,10 @@
-use mathlib.Core.Path.{refl, sym, subst}
+use mathlib.Core.Path.{refl}
 use mathlib.Core.List.{List·Memᴰ}
 use Prim.Native.Nat.{ℕ, _-_, _<_, _≤_}
 use native.Mathlib.Omega.{arith}
 use borrow.Author.Count.{below-more}
 use lib.ListN.{length}
-use lib.Dec.{T}
-use Rattle.plan.specs.Meaning.{trueIn, under, edge}
+use Rattle.plan.specs.Meaning.{trueIn, under}
 use Rattle.plan.specs.Reason.{Nearer}
 use Rattle.plan.specs.Tables.{edgesOf, edgeOf}
 use Rattle.plan.proofs.Walks.{mem-at}
@@ -15,10 +14,6 @@ use Rattle.walk.proofs.Truths.{so, not-so}
 use Rattle.reason.proofs.Paths.{nearer-of, of-nearer, some-nearer}
 use Rattle.reason.proofs.nearer_edge.Statement.{statement}
 use Rattle.reason.proofs.nearer_edge.Tie as tie
-use Rattle.reason.proofs.nearer_edge.Reads as reads
-use Rattle.reason.proofs.nearer_edge.Lts as lts
-use Rattle.plan.proofs.edge_at.Reads as edge-at-reads
-use Rattle.reason.proofs.leads_nearer.Reads as leads-nearer-reads
 
 abbrev Inv-loop : tie.InvT-loop
 Inv-loop edges assignment hops node count total k₀ k = (k ≤ total) × ((i : ℕ) → i < k → (s : ℕ) → HopTable (edgesOf edges) (under (trueIn assignment)) s hops → Nearer (edgesOf edges) (under (trueIn assignment)) s node count i → ⊥)

@@ -16,14 +16,6 @@ use Rattle.reason.specs.Answers.{AnswerIs}
 use borrow.Author.Needs.{needs}
 use Rattle.reason.proofs.reason.Statement.{statement}
 use Rattle.reason.proofs.reason.Tie as tie
-use Rattle.reason.proofs.reason.Reads as reads
-use Rattle.reason.proofs.reason.Lts as lts
-use Rattle.plan.proofs.atom_at.Reads as atom-at-reads
-use Rattle.plan.proofs.wide.Reads as wide-reads
-use Rattle.reason.proofs.hops_from.Reads as hops-from-reads
-use Rattle.reason.proofs.reason_fails.Reads as reason-fails-reads
-use Rattle.reason.proofs.reason_holds.Reads as reason-holds-reads
-use Rattle.walk.proofs.settled.Reads as settled-reads
 
 atom-at-requires : tie.Need-atom-at-requires
 atom-at-requires c κs = search needs

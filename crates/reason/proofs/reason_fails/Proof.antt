@@ -4,11 +4,6 @@ use Rattle.reason.proofs.Answering.{fails-answer}
 use borrow.Author.Needs.{needs}
 use Rattle.reason.proofs.reason_fails.Statement.{statement}
 use Rattle.reason.proofs.reason_fails.Tie as tie
-use Rattle.reason.proofs.reason_fails.Reads as reads
-use Rattle.reason.proofs.reason_fails.Lts as lts
-use Rattle.plan.proofs.wide.Reads as wide-reads
-use Rattle.reason.proofs.mark_cut.Reads as mark-cut-reads
-use Rattle.reason.proofs.write_answer.Reads as write-answer-reads
 
 mark-cut-requires : tie.Need-mark-cut-requires
 mark-cut-requires c κs = search needs

@@ -9,11 +9,6 @@ use Rattle.reason.proofs.Answering.{true-reached, holds-answer}
 use borrow.Author.Needs.{needs}
 use Rattle.reason.proofs.reason_holds.Statement.{statement}
 use Rattle.reason.proofs.reason_holds.Tie as tie
-use Rattle.reason.proofs.reason_holds.Reads as reads
-use Rattle.reason.proofs.reason_holds.Lts as lts
-use Rattle.plan.proofs.wide.Reads as wide-reads
-use Rattle.reason.proofs.mark_path.Reads as mark-path-reads
-use Rattle.reason.proofs.write_answer.Reads as write-answer-reads
 
 wide-requires : tie.Need-wide-requires
 wide-requires c κs = search needs

@@ -11,11 +11,6 @@ use Rattle.reason.proofs.Answering.{gave, too-short}
 use borrow.Author.Needs.{needs}
 use Rattle.reason.proofs.write_answer.Statement.{statement}
 use Rattle.reason.proofs.write_answer.Tie as tie
-use Rattle.reason.proofs.write_answer.Reads as reads
-use Rattle.reason.proofs.write_answer.Lts as lts
-use Rattle.reason.proofs.count_marks.Reads as count-marks-reads
-use Rattle.reason.proofs.literal_of.Reads as literal-of-reads
-use Rattle.reason.proofs.write_clause.Reads as write-clause-reads
 
 count-marks-requires : tie.Need-count-marks-requires
 count-marks-requires c κs = search needs

@@ -1,21 +1,16 @@
 use mathlib.Core.Path.{_≡_, refl, ap, sym, subst, _∙_}
 use mathlib.Core.Bool.{false}
-use mathlib.Core.List.{List, _∷_, map}
+use mathlib.Core.List.{_∷_, map}
 use Prim.Native.Nat.{suc, _+_, _-_, _≤_}
 use native.Mathlib.Omega.{arith}
-use borrow.Author.Needs.{needs}
-use lib.IntN.{ℤ}
 use lib.ListN.{length, getD, set, length-set}
 use mir.Syntax.{w16}
 use mir.Val.{toZ, ofZ}
 use mir.Facts.{toZ-ofZ}
-use Rattle.reason.specs.Marks.{premises, literalOf, piece, Starts}
+use Rattle.reason.specs.Marks.{premises, literalOf, Starts}
 use Rattle.reason.proofs.Listing.{premises-zero, premises-count, premises-fewer, piece-length, clauseUpTo, starts-zero, starts-next, starts-over}
 use Rattle.reason.proofs.write_clause.Statement.{statement}
 use Rattle.reason.proofs.write_clause.Tie as tie
-use Rattle.reason.proofs.write_clause.Reads as reads
-use Rattle.reason.proofs.write_clause.Lts as lts
-use Rattle.reason.proofs.write_mark.Reads as write-mark-reads
 
 abbrev Inv-loop : tie.InvT-loop
 Inv-loop first sign marks variables out₀ at₀ v₀ out at v =

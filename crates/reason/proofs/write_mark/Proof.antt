@@ -1,21 +1,16 @@
-use mathlib.Core.Path.{_≡_, ap, sym, subst, _∙_}
-use mathlib.Core.List.{List, [], _∷_}
+use mathlib.Core.Path.{ap, _∙_}
 use Prim.Native.Nat.{_<_}
 use native.Mathlib.Omega.{arith}
 use borrow.Author.Tests.{not-true, not-false}
-use lib.IntN.{ℤ}
-use lib.ListN.{length, set}
+use lib.ListN.{length}
 use mir.Syntax.{w16}
-use mir.Val.{SFits, toZ, ofZ}
+use mir.Val.{SFits}
 use mir.Facts.{toZ-ofZ}
-use Rattle.reason.specs.Marks.{literalOf, Appends}
+use Rattle.reason.specs.Marks.{literalOf}
 use Rattle.reason.proofs.Listing.{piece-true, piece-false, appends-none, appends-one}
 use borrow.Author.Needs.{needs}
 use Rattle.reason.proofs.write_mark.Statement.{statement}
 use Rattle.reason.proofs.write_mark.Tie as tie
-use Rattle.reason.proofs.write_mark.Reads as reads
-use Rattle.reason.proofs.write_mark.Lts as lts
-use Rattle.reason.proofs.literal_of.Reads as literal-of-reads
 
 returns : tie.Need-returns
 returns c = rw (piece-false (c .before .args .mark) (c .before .args .sign) (c .before .args .variable) (not-true _ (c .if1 .taken))) (appends-none (c .before .args .at) (c .before .args .out .now))

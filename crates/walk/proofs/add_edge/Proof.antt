@@ -1,12 +1,10 @@
-use mathlib.Core.Path.{sym, ap, subst, _∙_}
+use mathlib.Core.Path.{sym, ap, _∙_}
 use mathlib.Core.List.{List·Memᴰ}
 use Prim.Native.Nat.{_<_}
 use native.Mathlib.Omega.{arith}
 use borrow.Author.Tests.{not-true, not-false}
 use lib.ListN.{length}
-use lib.Dec.{T}
 use Rattle.plan.specs.Tables.{edgesOf, edgeOf}
-use Rattle.walk.specs.Hopping.{graphOf}
 use Rattle.plan.proofs.Walks.{mem-at}
 use Rattle.walk.proofs.Truths.{so, not-so}
 use Rattle.walk.proofs.Sets.{one-shifted}
@@ -14,11 +12,6 @@ use Rattle.walk.proofs.Filling.{within-listed, filled-skip, filled-put}
 use borrow.Author.Needs.{needs}
 use Rattle.walk.proofs.add_edge.Statement.{statement}
 use Rattle.walk.proofs.add_edge.Tie as tie
-use Rattle.walk.proofs.add_edge.Reads as reads
-use Rattle.walk.proofs.add_edge.Lts as lts
-use Rattle.plan.proofs.edge_at.Reads as edge-at-reads
-use Rattle.plan.proofs.wide.Reads as wide-reads
-use Rattle.walk.proofs.is_present.Reads as is-present-reads
 
 -- the edge's ends are nodes, and its variable has a value
 module _ (c : tie.After-edge-at) where

@@ -3,8 +3,6 @@ use borrow.Author.Needs.{needs}
 use Rattle.walk.proofs.Sets.{bit-shift}
 use Rattle.walk.proofs.has.Statement.{statement}
 use Rattle.walk.proofs.has.Tie as tie
-use Rattle.walk.proofs.has.Reads as reads
-use Rattle.walk.proofs.has.Lts as lts
 
 shr-result : tie.Need-shr-result
 shr-result c = search needs

@@ -2,9 +2,6 @@ use Rattle.walk.proofs.Filling.{is-on, is-not-off}
 use borrow.Author.Needs.{needs}
 use Rattle.walk.proofs.is_present.Statement.{statement}
 use Rattle.walk.proofs.is_present.Tie as tie
-use Rattle.walk.proofs.is_present.Reads as reads
-use Rattle.walk.proofs.is_present.Lts as lts
-use Rattle.plan.proofs.wide.Reads as wide-reads
 
 wide-requires : tie.Need-wide-requires
 wide-requires c κs = search needs

@@ -1,4 +1,3 @@
-use mathlib.Core.Path.{_≡_, refl, sym, subst, _∙_}
 use borrow.Author.Tests.{not-true, not-false}
 use Rattle.walk.proofs.Truths.{so, not-so, true-none, true-reaches, true-other, true-within}
 use borrow.Author.Needs.{needs}
@@ -16,19 +15,7 @@ has-requires : tie.Need-has-requires
 has-requires c κs = search needs
 
 returns : tie.Need-returns
-returns c = λ es g x. (
-  (λ z. absurd z),
-  (λ y. true-none x (c .before .before .before .args .atom .kind) (c .before .before .before .args .atom .bound) (c .before .before .before .args .atom .to) (λ t. not-so (c .before .has .ensures) (not-true _ (c .if1 .taken)) (rw (c .before .before .wide .ensures) t)) y),
-)
-
-returns-2 : tie.Need-returns-2
-returns-2 c = λ es g x. (
-  (λ z. true-reaches x _ _ _ (c .if2 .taken) (rw (c .before .before .before .wide .ensures) at (so (c .before .before .has .ensures) (not-false _ (c .before .if1 .left))))),
-  (λ y. tt),
-)
-
-returns-3 : tie.Need-returns-3
-returns-3 c = λ es g x. ((λ z. absurd z), (λ y. true-other x _ _ _ (c .before .if2 .left) (c .if3 .taken) y))
+returns c = λ es g x. ((λ z. absurd z), (λ y. true-none x (c .before .before .before .args .atom .kind) (c .before .before .before .args .atom .bound) (c .before .before .before .args .atom .to) (λ t. not-so (c .before .has .ensures) (not-true _ (c .if1 .taken)) (rw (c .before .before .wide .ensures) t)) y))
 
 element-copy-out-count : tie.Need-element-copy-out-count
 element-copy-out-count c = search needs
@@ -36,10 +23,14 @@ element-copy-out-count c = search needs
 cast-result : tie.Need-cast-result
 cast-result c = search needs
 
+returns-2 : tie.Need-returns-2
+returns-2 c = λ es g x. ((λ z. true-reaches x (c .before .before .before .before .before .args .atom .kind) (c .before .before .before .before .before .args .atom .bound) (c .before .before .before .before .before .args .atom .to) (c .match .keys1) (rw (c .before .before .before .before .wide .ensures) at (so (c .before .before .before .has .ensures) (not-false _ (c .before .before .if1 .left))))), (λ y. tt))
+
+returns-3 : tie.Need-returns-3
+returns-3 c = λ es g x. rw (c .before .before .before .before .before .wide .ensures) (true-within x (c .before .before .before .before .before .before .args .atom .kind) (c .before .before .before .before .before .before .args .atom .bound) (c .before .before .before .before .before .before .args .atom .to) (c .before .match .keys2) (rw (c .before .before .before .before .before .wide .ensures) at (so (c .before .before .before .before .has .ensures) (not-false _ (c .before .before .before .if1 .left)))))
+
 returns-4 : tie.Need-returns-4
-returns-4 c = λ es g x.
-    let d = c .before .before .before .before .before .before in
-    rw (d .wide .ensures) (true-within x _ _ _ (c .before .before .if3 .left) (rw (d .wide .ensures) at (so (c .before .before .before .before .before .has .ensures) (not-false _ (c .before .before .before .before .if1 .left)))))
+returns-4 c = λ es g x. ((λ z. absurd z), (λ y. true-other x (c .before .before .before .before .before .args .atom .kind) (c .before .before .before .before .before .args .atom .bound) (c .before .before .before .before .before .args .atom .to) (c .match .rest .0 .1) (c .match .rest .1) y))
 
 pub is-true-spec : {M : Type 1} → statement M
 is-true-spec =
@@ -48,8 +39,8 @@ is-true-spec =
     wide-requires
     has-requires
     returns
-    returns-2
-    returns-3
     element-copy-out-count
     cast-result
+    returns-2
+    returns-3
     returns-4)

@@ -7,9 +7,6 @@ use Rattle.walk.specs.Front.{UpTo}
 use Rattle.walk.proofs.Filling.{filled-none, filled-all, edges-most}
 use Rattle.walk.proofs.neighbours.Statement.{statement}
 use Rattle.walk.proofs.neighbours.Tie as tie
-use Rattle.walk.proofs.neighbours.Reads as reads
-use Rattle.walk.proofs.neighbours.Lts as lts
-use Rattle.walk.proofs.add_edge.Reads as add-edge-reads
 
 abbrev Inv-loop : tie.InvT-loop
 Inv-loop edges values over sets₀ count k₀ sets k = (k ≤ count) × UpTo (edgesOf edges) (graphOf over values) k sets

@@ -3,9 +3,6 @@ use Rattle.walk.proofs.Truths.{so, not-so}
 use borrow.Author.Needs.{needs}
 use Rattle.walk.proofs.settled.Statement.{statement}
 use Rattle.walk.proofs.settled.Tie as tie
-use Rattle.walk.proofs.settled.Reads as reads
-use Rattle.walk.proofs.settled.Lts as lts
-use Rattle.walk.proofs.is_true.Reads as is-true-reads
 
 is-true-requires : tie.Need-is-true-requires
 is-true-requires c κs = search needs

@@ -2,7 +2,6 @@ use mathlib.Core.Path.{_≡_}
 use mathlib.Core.List.{List}
 use Prim.Native.Nat.{ℕ, suc, _+_, _*_, _-_, _%_, _^_, _<_, _≤_}
 use native.Mathlib.Omega.{arith}
-use borrow.Author.Needs.{needs}
 use lib.ListN.{length, length-set}
 use lib.Count.{trailingZeros}
 use lib.Dec.{T}
@@ -13,8 +12,6 @@ use Rattle.walk.proofs.Sets.{bit-inside, bit-le, one-shifted, lowest, s
 use Rattle.walk.proofs.Visits.{visited-none, visited-more}
 use Rattle.walk.proofs.visit.Statement.{statement}
 use Rattle.walk.proofs.visit.Tie as tie
-use Rattle.walk.proofs.visit.Reads as reads
-use Rattle.walk.proofs.visit.Lts as lts
 
 abbrev Inv-loop : tie.InvT-loop
 Inv-loop new count tail counts₀ queue₀ rest₀ end₀ counts queue rest end =

@@ -7,9 +7,6 @@ use Rattle.walk.proofs.Sets.{one-shifted}
 use Rattle.walk.proofs.Breadth.{Bfs, tail-le, node-in, count-in, begin, room-for, turn, table}
 use Rattle.walk.proofs.walk.Statement.{statement}
 use Rattle.walk.proofs.walk.Tie as tie
-use Rattle.walk.proofs.walk.Reads as reads
-use Rattle.walk.proofs.walk.Lts as lts
-use Rattle.walk.proofs.visit.Reads as visit-reads
 
 abbrev Inv-loop : tie.InvT-loop
 Inv-loop neighbours source reached₀ counts₀ queue₀ tail₀ head₀ reached counts queue tail head =

@@ -1,0 +1,64 @@
+use mathlib.Core.Path.{_≡_, sym, ap, _∙_, subst}
+use Prim.Native.Nat.{ℕ, _≤_}
+use native.Mathlib.Omega.{arith}
+use borrow.Author.Needs.{needs}
+use lib.ListN.{length, take, drop}
+use lib.Seq.{length-take-le, take-at}
+use Rattle.plan.specs.Search.{Assigned, CloseIs}
+use Rattle.plan.specs.Tables.{planOf}
+use Rattle.closing.specs.Closed.{closedOf}
+use Rattle.search.proofs.closed.Statement.{statement}
+use Rattle.search.proofs.closed.Tie as tie
+use Rattle.search.proofs.closed.Reads as reads
+use Rattle.search.proofs.closed.Lts as lts
+use Rattle.closing.proofs.close.Reads as close-reads
+use Rattle.plan.proofs.wide.Reads as wide-reads
+
+wide-requires : tie.Need-wide-requires
+wide-requires c κs = search needs
+
+-- the first n of the 512
+module _ (c : tie.After-wide) where
+  abbrev begin : tie.Start
+  begin = c .before .before .before .before
+
+  long : length (begin .args .a .values) ≡ 512
+  long = search needs
+
+  few : begin .args .plan .variables ≤ 512
+  few = begin .pre .0 .ranged .variables
+
+  inside : c .wide .result ≤ length (begin .args .a .values)
+  inside = omega (arith, few, long, c .wide .ensures)
+
+array-borrow-prefix-values : tie.Need-array-borrow-prefix-values
+array-borrow-prefix-values c = inside c
+
+slice-aggregate-close : tie.Need-slice-aggregate-close
+slice-aggregate-close c = sym (length-take-le _ _ (inside (c .before)))
+
+close-requires : tie.Need-close-requires
+close-requires c κs = 
+    let b = begin (c .before) in
+    (b .pre .0, subst (λ n. Assigned (b .args .plan .variables) (take n (b .args .a .values))) (sym (c .before .wide .ensures)) (b .pre .1))
+
+returns : tie.Need-returns
+returns c = 
+    let d = c .before .before .before in
+    let b = begin d in
+    let k = c .before .close in
+    let whole = planOf (b .args .plan) (b .args .edges .now) (b .args .atoms .now) (b .args .clauses .now) in
+    let e : take (d .wide .result) (b .args .a .values) ≡ take (b .args .plan .variables) (b .args .a .values) = ap (λ n. take n (b .args .a .values)) (d .wide .ensures) in
+    subst (λ l. CloseIs whole (take (b .args .plan .variables) (b .args .a .values)) (closedOf (k .result) l))
+    (sym (take-at (k .last .1 .1 .1 .1 .0) (drop (d .wide .result) (b .args .a .values)) (b .args .plan .variables) (k .ensures .0 .long)))
+    (subst (λ l. CloseIs whole l (closedOf (k .result) (k .last .1 .1 .1 .1 .0))) e (k .ensures .1))
+
+pub closed-spec : {M : Type 1} → statement M
+closed-spec =
+    tie.close
+    (tie.spec
+    wide-requires
+    array-borrow-prefix-values
+    slice-aggregate-close
+    close-requires
+    returns)

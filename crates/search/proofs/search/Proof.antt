@@ -1,0 +1,100 @@
+use mathlib.Core.Path.{_≡_, refl, sym, ap, _∙_, subst}
+use mathlib.Core.List.{List}
+use Prim.Native.Nat.{ℕ, _≤_}
+use native.Mathlib.Omega.{arith}
+use borrow.Author.Needs.{needs}
+use lib.IntN.{ℤ, pos}
+use lib.ListN.{length, take, replicate}
+use Rattle.plan.specs.Meaning.{PlanFile}
+use Rattle.plan.specs.Search.{Assigned}
+use Rattle.plan.specs.Tables.{planOf}
+use Rattle.search.proofs.Firsts.{all-open-is, all-open-shape}
+use Rattle.search.proofs.Parts.{whole-plan, whole-impossible, whole-undecided}
+use Rattle.search.proofs.search.Statement.{statement}
+use Rattle.search.proofs.search.Tie as tie
+use Rattle.search.proofs.search.Reads as reads
+use Rattle.search.proofs.search.Lts as lts
+use Rattle.plan.proofs.Assignment.all_open.Reads as all-open-reads
+use Rattle.search.proofs.settle.Reads as settle-reads
+use Rattle.search.proofs.write.Reads as write-reads
+
+all-open-requires : tie.Need-all-open-requires
+all-open-requires c κs = search needs
+
+-- from all open
+module _ (c : tie.After-all-open) where
+  abbrev begin : tie.Start
+  begin = c .before .before .before
+
+  abbrev n : ℕ
+  n = begin .args .plan .variables
+
+  abbrev whole : PlanFile
+  whole = planOf (begin .args .plan) (begin .args .edges .now) (begin .args .atoms .now) (begin .args .clauses .now)
+
+  starts : take n (c .all-open .result .values) ≡ replicate n (pos 0)
+  starts = all-open-is n (c .all-open .result .values) (begin .pre .0 .ranged .variables) (c .all-open .ensures)
+
+settle-requires : tie.Need-settle-requires
+settle-requires c κs = 
+    (record { lent = begin c .pre .0; shape = subst (λ l. Assigned (n c) l) (sym (starts c)) (all-open-shape (n c)); left = omega arith },
+    (omega arith, λ j h. absurd (omega arith)))
+
+enum-told : tie.Need-enum-told
+enum-told c = search needs
+
+write-requires : tie.Need-write-requires
+write-requires c κs = search needs
+
+enum-told-2 : tie.Need-enum-told-2
+enum-told-2 c = search needs
+
+enum-told-3 : tie.Need-enum-told-3
+enum-told-3 c = search needs
+
+same-length : tie.Need-same-length
+same-length c = search needs
+
+returns : tie.Need-returns
+returns c = 
+    let s = c .before .before .before .before .before .before in
+    let d = s .before in
+    let e = c .before .write .ensures in
+    record {
+      searched = whole-plan (whole d) _ (replicate (n d) (pos 0)) (take (n d) (s .settle .result .plan .values)) (begin d .args .budget) (s .settle .result .count) (s .settle .result .verdict) (starts d) (s .settle .ensures)
+        (c .before .before .before .before .enum-told .given .1) (c .before .write .last .1 .1 .0) e;
+      keeps = same-length c;
+    }
+
+returns-2 : tie.Need-returns-2
+returns-2 c = 
+    let s = c .before .before in
+    let d = s .before in
+    record {
+      searched = whole-impossible (whole d) _ (replicate (n d) (pos 0)) (take (n d) (s .settle .result .plan .values)) (begin d .args .budget) (s .settle .result .count) (s .settle .result .verdict) (starts d) (s .settle .ensures) (c .enum-told2 .given .1);
+      keeps = refl;
+    }
+
+returns-3 : tie.Need-returns-3
+returns-3 c = 
+    let s = c .before .before in
+    let d = s .before in
+    record {
+      searched = whole-undecided (whole d) _ (replicate (n d) (pos 0)) (take (n d) (s .settle .result .plan .values)) (begin d .args .budget) (s .settle .result .count) (s .settle .result .verdict) (starts d) (s .settle .ensures) (c .enum-told3 .given .1);
+      keeps = refl;
+    }
+
+pub search-spec : {M : Type 1} → statement M
+search-spec =
+    tie.close
+    (tie.spec
+    all-open-requires
+    settle-requires
+    enum-told
+    write-requires
+    enum-told-2
+    enum-told-3
+    same-length
+    returns
+    returns-2
+    returns-3)

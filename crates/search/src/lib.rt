@@ -1,0 +1,173 @@
+use plan::Assignment;
+use plan::Plan;
+ghost use mathlib.Core.Path.{_≡_};
+ghost use mathlib.Core.List.{List};
+ghost use Prim.Native.Nat.{ℕ, _+_, _-_, _<_, _≤_};
+ghost use lib.IntN.{ℤ, pos};
+ghost use lib.ListN.{length, getD, take};
+ghost use Rattle.plan.specs.Search.{Assigned, Closes, CloseIs, Lowest};
+ghost use Rattle.plan.specs.Tables.{planOf, Lent};
+ghost use Rattle.closing.specs.Closed.{closedOf};
+ghost use Rattle.search.specs.Report.{Reported, Filled, FirstOpen, Begins, Answers};
+
+pub enum Verdict {
+    Plan,
+    Impossible,
+    Undecided,
+}
+
+// A part of the search: the verdict, the plan that it holds, and the branchings counted so far.
+pub struct Outcome {
+    pub verdict: Verdict,
+    pub plan: Assignment,
+    pub count: u32,
+}
+
+// An assignment that was closed.
+pub struct Part {
+    pub clash: bool,
+    pub set: Assignment,
+}
+
+// Closes an assignment.
+fn closed(plan: Plan, edges: &[u16], atoms: &[u16], clauses: &[i16], a: Assignment) -> Part
+    requires { ⌜ Lent plan (now edges) (now atoms) (now clauses) ⌝ }
+    requires { ⌜ Assigned (plan .variables) (take (plan .variables) (a .values)) ⌝ }
+    ensures { λ r. ⌜ CloseIs (planOf plan (now (edges .entry)) (now (atoms .entry)) (now (clauses .entry))) (take (plan .variables) (a .values)) (closedOf (r .clash) (take (plan .variables) (r .set .values))) ⌝ }
+{
+    let mut values = a.values;
+    let n = plan::wide(plan.variables);
+    let clash = closing::close(plan, edges, atoms, clauses, &mut values[..n]);
+    let set = Assignment { values: values };
+    Part {
+        clash: clash,
+        set: set,
+    }
+}
+
+// The lowest open variable's place from `from` on; the number of variables if there is none.
+fn lowest_open(values: &[i8], from: usize) -> usize
+    requires { ⌜ from ≤ length (now values) ⌝ }
+    ensures { λ r. ⌜ FirstOpen (now (values .entry)) from r ⌝ }
+{
+    let mut at = from;
+    while at < values.len() {
+        if values[at] == 0 {
+            return at;
+        }
+        at += 1;
+    }
+    at
+}
+
+// The lowest open variable's place in an assignment.
+fn open_place(plan: Plan, a: Assignment, from: usize) -> usize
+    requires { ⌜ plan .variables ≤ 512 ⌝ }
+    requires { ⌜ from ≤ plan .variables ⌝ }
+    ensures { λ r. ⌜ FirstOpen (take (plan .variables) (a .values)) from r ⌝ }
+{
+    let values = a.values;
+    let n = plan::wide(plan.variables);
+    lowest_open(&values[..n], from)
+}
+
+// Closes, and finds a clash, a plan, or the lowest open variable to branch on. The places below `from` are assigned.
+pub fn settle(plan: Plan, edges: &[u16], atoms: &[u16], clauses: &[i16], a: Assignment, from: usize, budget: u32, count: u32) -> Outcome
+    requires { ⌜ Begins plan (now edges) (now atoms) (now clauses) (take (plan .variables) (a .values)) budget count ⌝ }
+    requires { ⌜ from ≤ plan .variables ⌝ }
+    requires { ⌜ Filled (take (plan .variables) (a .values)) from ⌝ }
+    ensures { λ r. ⌜ Reported (planOf plan (now (edges .entry)) (now (atoms .entry)) (now (clauses .entry))) (take (plan .variables) (a .values)) budget count (r .verdict) (take (plan .variables) (r .plan .values)) (r .count) ⌝ }
+{
+    let part = closed(plan, edges, atoms, clauses, a);
+    let set = part.set;
+    if part.clash {
+        return Outcome {
+            verdict: Verdict::Impossible,
+            plan: set,
+            count: count,
+        };
+    }
+    let place = open_place(plan, set, from);
+    if place == plan::wide(plan.variables) {
+        return Outcome {
+            verdict: Verdict::Plan,
+            plan: set,
+            count: count,
+        };
+    }
+    branch(plan, edges, atoms, clauses, set, place, budget, count)
+}
+
+// Tries the variable at `place` off, and on only if off held no plan.
+pub fn branch(plan: Plan, edges: &[u16], atoms: &[u16], clauses: &[i16], a: Assignment, place: usize, budget: u32, count: u32) -> Outcome
+    requires { ⌜ Begins plan (now edges) (now atoms) (now clauses) (take (plan .variables) (a .values)) budget count ⌝ }
+    requires { ⌜ Lowest (take (plan .variables) (a .values)) place ⌝ }
+    ensures { λ r. ⌜ ((b : List ℤ) → Closes (planOf plan (now (edges .entry)) (now (atoms .entry)) (now (clauses .entry))) b (take (plan .variables) (a .values)) → Reported (planOf plan (now (edges .entry)) (now (atoms .entry)) (now (clauses .entry))) b budget count (r .verdict) (take (plan .variables) (r .plan .values)) (r .count)) ⌝ }
+{
+    if count == budget {
+        return Outcome {
+            verdict: Verdict::Undecided,
+            plan: a,
+            count: count,
+        };
+    }
+    let literal = (place + 1) as i16;
+    let first = settle(plan, edges, atoms, clauses, a.with(-literal), place + 1, budget, count + 1);
+    let verdict = first.verdict;
+    match verdict {
+        Verdict::Impossible => {
+            let so_far = first.count;
+            settle(plan, edges, atoms, clauses, a.with(literal), place + 1, budget, so_far)
+        }
+        _ => first,
+    }
+}
+
+// The answer, with the branchings counted.
+pub enum Found {
+    Plan(u32),
+    Impossible(u32),
+    Undecided(u32),
+}
+
+fn copy(from: &[i8], to: &mut [i8])
+    requires { ⌜ length (now to) ≡ length (now from) ⌝ }
+    ensures { λ _. ⌜ now (to .exit) ≡ now (from .entry) ⌝ }
+{
+    let mut i = 0;
+    while i < from.len() {
+        to[i] = from[i];
+        i += 1;
+    }
+}
+
+// Writes a plan into the result.
+fn write(plan: Plan, a: Assignment, result: &mut [i8])
+    requires { ⌜ plan .variables ≤ 512 ⌝ }
+    requires { ⌜ length (now result) ≡ plan .variables ⌝ }
+    ensures { λ _. ⌜ now (result .exit) ≡ take (plan .variables) (a .values) ⌝ }
+{
+    let values = a.values;
+    let n = plan::wide(plan.variables);
+    copy(&values[..n], result);
+}
+
+// Searches for the first plan from all open, with at most `budget` branchings. The result is written for a plan only.
+pub fn search(plan: Plan, edges: &[u16], atoms: &[u16], clauses: &[i16], budget: u32, result: &mut [i8]) -> Found
+    requires { ⌜ Lent plan (now edges) (now atoms) (now clauses) ⌝ }
+    requires { ⌜ length (now result) ≡ plan .variables ⌝ }
+    ensures { λ r. ⌜ Answers (planOf plan (now (edges .entry)) (now (atoms .entry)) (now (clauses .entry))) budget (now (result .entry)) (now (result .exit)) r ⌝ }
+{
+    let outcome = settle(plan, edges, atoms, clauses, Assignment::all_open(), 0, budget, 0);
+    let verdict = outcome.verdict;
+    let count = outcome.count;
+    match verdict {
+        Verdict::Plan => {
+            let held = outcome.plan;
+            write(plan, held, result);
+            Found::Plan(count)
+        }
+        Verdict::Impossible => Found::Impossible(count),
+        Verdict::Undecided => Found::Undecided(count),
+    }
+}
