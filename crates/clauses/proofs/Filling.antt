@@ -1,9 +1,9 @@
 -- The invariant of a loop that writes the pieces g 0, g 1, .. one behind the other, and its laws.
 -- Assumes nothing.
-use mathlib.Core.Path.{_≡_, refl, sym, _∙_, ap, subst}
+use mathlib.Core.Path.{_≡_, refl, sym, ap, subst}
 use mathlib.Core.List.{List, _++_}
 use mathlib.Core.Logic.{_⊎_, inl, inr}
-use Prim.Native.Nat.{ℕ, zero, suc, _+_, _-_, _≤_, _<_}
+use Prim.Native.Nat.{ℕ, zero, suc, _+_, _≤_, _<_}
 use native.Mathlib.Omega.{arith}
 use native.Mathlib.Numerals.{add-one}
 use lib.IntN.{ℤ}
@@ -11,7 +11,7 @@ use lib.ListN.{length, length-append}
 use Rattle.plan.specs.Written.{each}
 use Rattle.plan.proofs.Walks.{le-or-lt}
 use Rattle.clauses.specs.Front.{Room, Put}
-use Rattle.clauses.proofs.Fronts.{rest, joined, rest-length, put-none, put-as, put-length, put-then, room-first, room-rest}
+use Rattle.clauses.proofs.Fronts.{rest, joined, put-none, put-as, put-length, put-then, room-rest}
 
 -- k of m pieces are written
 pub record Filling (g : ℕ → List ℤ) (m : ℕ) (old out : List ℤ) (used k : ℕ) : Type 0 where

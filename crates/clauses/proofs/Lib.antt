@@ -6,3 +6,4 @@ pub mod Choices
 pub mod Rows
 pub mod Stepping
 pub mod Whole
+pub mod EndToEnd

@@ -3,7 +3,7 @@
 use mathlib.Core.Path.{_≡_, refl, sym, _∙_, ap, ap₂, fun-ext}
 use mathlib.Core.List.{List, [], _∷_, _++_, append-assoc}
 use mathlib.Core.Bool.{Bool, true, false, cond}
-use Prim.Native.Nat.{ℕ, zero, suc, _+_, _*_, _≤_, _<_}
+use Prim.Native.Nat.{ℕ, suc, _+_, _*_, _<_}
 use native.Mathlib.Omega.{arith}
 use native.Mathlib.Nat.{mul-le-mul-right}
 use lib.IntN.{ℤ, pos}
@@ -12,8 +12,7 @@ use lib.ListN.{length}
 use Rattle.plan.specs.Meaning.{Edge, Atom, edge, on, off}
 use Rattle.plan.specs.Written.{each, flat, R, U, into, startClauses, edgeClauses, nodeClauses, levelClauses, endClauses, block, levels, atomBlock}
 use Rattle.encoding.proofs.Each.{flat-append, flat-each}
-use Rattle.clauses.specs.declared.Level.{Level}
-use Rattle.clauses.specs.Rows.{givesRow, andRow, edgeRow, literalRow, intoRow, aloneRow, endRow, edgesRow, literalsRow, intosRow, reachedRow, nodeRow, nodesRow, levelRow, firstAt, levelFrom, levelsRow, startRow, blockRow, LowBlock}
+use Rattle.clauses.specs.Rows.{givesRow, bothRow, andRow, edgeRow, literalRow, intoRow, aloneRow, endRow, edgesRow, literalsRow, intosRow, reachedRow, nodeRow, nodesRow, levelRow, firstAt, levelFrom, levelsRow, startRow, blockRow, LowBlock}
 
 each-same : {A : Type 0} (n : ℕ) (f g : ℕ → List A) → ((k : ℕ) → f k ≡ g k) → each n f ≡ each n g
 each-same n f g e = ap (each n) (fun-ext e)
@@ -63,7 +62,7 @@ module _ (n : ℕ) (es : List Edge) (base : ℕ) where
   start-is s = flat-each n _ ∙ each-same n _ _ (λ w. ap (λ v. cond (eqb w s) (on v) (off v) ∷ pos 0 ∷ []) (R-is 0 w ∙ omega arith))
 
   edge-is : (i k : ℕ) → flat (edgeClauses n es base i k) ≡ edgeRow (edge es k) (first i + n + k) (first i)
-  unfolding flat edgeClauses edgeRow andRow
+  unfolding flat edgeClauses edgeRow andRow givesRow bothRow
   edge-is i k = ap₂ (λ t r. andRow t (edge es k .variable) r) (U-is i k) (R-is i (edge es k .from))
 
   node-is : (i w : ℕ) → flat (nodeClauses n es base i w) ≡ nodeRow es (first i + n) (first i + w) (first i + (n + length es) + w) w

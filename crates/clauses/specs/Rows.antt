@@ -7,7 +7,7 @@ use lib.IntN.{ℤ, pos}
 use lib.Dec.{eqb}
 use lib.ListN.{length}
 use Rattle.plan.specs.Meaning.{Edge, Atom, edge, on, off}
-use Rattle.plan.specs.Written.{each, after, last}
+use Rattle.plan.specs.Written.{each, last}
 use Rattle.plan.specs.Ranged.{maxNodes, maxEdges}
 use Rattle.clauses.specs.declared.Level.{Level}
 
@@ -15,9 +15,13 @@ use Rattle.clauses.specs.declared.Level.{Level}
 unfoldable pub givesRow : ℕ → ℕ → List ℤ
 givesRow a b = off a ∷ on b ∷ pos 0 ∷ []
 
+-- (-a, -b, c)
+unfoldable pub bothRow : ℕ → ℕ → ℕ → List ℤ
+bothRow a b c = off a ∷ off b ∷ on c ∷ pos 0 ∷ []
+
 -- (-t, x), (-t, r), (-x, -r, t)
 unfoldable pub andRow : ℕ → ℕ → ℕ → List ℤ
-andRow t x r = off t ∷ on x ∷ pos 0 ∷ off t ∷ on r ∷ pos 0 ∷ off x ∷ off r ∷ on t ∷ pos 0 ∷ []
+andRow t x r = (givesRow t x ++ givesRow t r) ++ bothRow x r t
 
 -- an edge, whose T is t, on a level whose first R is first
 unfoldable pub edgeRow : Edge → ℕ → ℕ → List ℤ

@@ -1,8 +1,8 @@
-use plan::Plan;
-use plan::Edge;
 use plan::Atom;
-use plan::edge_at;
+use plan::Edge;
+use plan::Plan;
 use plan::atom_at;
+use plan::edge_at;
 use plan::wide;
 ghost use mathlib.Core.Path.{_≡_};
 ghost use mathlib.Core.List.{List, [], _∷_, _++_};
@@ -13,7 +13,7 @@ ghost use Rattle.plan.specs.Meaning.{on, off};
 ghost use Rattle.plan.specs.Tables.{edgesOf, atomsOf, edgeOf, atomOf, planOf, Lent};
 ghost use Rattle.plan.specs.Written.{flat, levels, blockVariables, blockClauses, blockNumbers, blocks};
 ghost use Rattle.clauses.specs.Front.{Room, Put};
-ghost use Rattle.clauses.specs.Rows.{givesRow, andRow, edgeRow, literalRow, intoRow, aloneRow, endRow, edgesRow, literalsRow, intosRow, reachedRow, nodeRow, nodesRow, levelRow, levelsRow, startRow, blockRow, Low, LowBlock, LowBlocks};
+ghost use Rattle.clauses.specs.Rows.{givesRow, bothRow, andRow, edgeRow, literalRow, intoRow, aloneRow, endRow, edgesRow, literalsRow, intosRow, reachedRow, nodeRow, nodesRow, levelRow, levelsRow, startRow, blockRow, Low, LowBlock, LowBlocks};
 ghost use Rattle.clauses.specs.Writing.{Writes, Added, AddedOne, Few, InLimits, Countable};
 
 // The first numbers of a level of a block: those of its R, of its T, and of the next level's R.
@@ -64,29 +64,33 @@ fn put_gives(out: &mut [i32], a: usize, b: usize) -> usize
     3
 }
 
+// The clause (-a, -b, c).
+fn put_both(out: &mut [i32], a: usize, b: usize, c: usize) -> usize
+    requires { ⌜ Room (bothRow a b c) (now out) ⌝ }
+    requires { ⌜ (a < 2147483648) × (b < 2147483648) × (c < 2147483648) ⌝ }
+    ensures { λ r. ⌜ Put (bothRow a b c) (now (out .entry)) (now (out .exit)) r ⌝ }
+{
+    let x = off(a);
+    let y = off(b);
+    let z = on(c);
+    out[0] = x;
+    out[1] = y;
+    out[2] = z;
+    out[3] = 0;
+    4
+}
+
 // The three clauses that make t both x and r.
 fn put_and(out: &mut [i32], t: usize, x: usize, r: usize) -> usize
     requires { ⌜ Room (andRow t x r) (now out) ⌝ }
     requires { ⌜ (t < 2147483648) × (x < 2147483648) × (r < 2147483648) ⌝ }
     ensures { λ u. ⌜ Put (andRow t x r) (now (out .entry)) (now (out .exit)) u ⌝ }
 {
-    let t_on = on(t);
-    let t_off = off(t);
-    let x_on = on(x);
-    let x_off = off(x);
-    let r_on = on(r);
-    let r_off = off(r);
-    out[0] = t_off;
-    out[1] = x_on;
-    out[2] = 0;
-    out[3] = t_off;
-    out[4] = r_on;
-    out[5] = 0;
-    out[6] = x_off;
-    out[7] = r_off;
-    out[8] = t_on;
-    out[9] = 0;
-    10
+    let first = put_gives(out, t, x);
+    let second = put_gives(&mut out[first..], t, r);
+    let used = first + second;
+    let third = put_both(&mut out[used..], x, r, t);
+    used + third
 }
 
 // The clauses of an edge whose T is t, on a level whose first R is `first`.
@@ -247,7 +251,14 @@ fn put_nodes(out: &mut [i32], edges: &[u16], nodes: usize, level: Level) -> usiz
     let mut used: usize = 0;
     let mut w = 0;
     while w < nodes {
-        let more = put_node(&mut out[used..], edges, level.edges, level.nodes + w, level.next + w, w);
+        let more = put_node(
+            &mut out[used..],
+            edges,
+            level.edges,
+            level.nodes + w,
+            level.next + w,
+            w,
+        );
         used += more;
         w += 1;
     }
@@ -344,7 +355,14 @@ fn put_end(out: &mut [i32], a: usize, v: usize) -> usize
 }
 
 // One block behind `base`, of `top` levels.
-fn put_block(out: &mut [i32], edges: &[u16], nodes: usize, base: usize, top: usize, atom: Atom) -> usize
+fn put_block(
+    out: &mut [i32],
+    edges: &[u16],
+    nodes: usize,
+    base: usize,
+    top: usize,
+    atom: Atom,
+) -> usize
     requires { ⌜ Room (blockRow nodes (edgesOf (now edges)) base top (atom .from) (atom .to) (atom .variable)) (now out) ⌝ }
     requires { ⌜ LowBlock (edgesOf (now edges)) nodes base top ⌝ }
     ensures { λ r. ⌜ Put (blockRow nodes (edgesOf (now (edges .entry))) base top (atom .from) (atom .to) (atom .variable)) (now (out .entry)) (now (out .exit)) r ⌝ }
@@ -480,7 +498,13 @@ fn put_own(out: &mut [i32], clauses: &[i16]) -> usize
 }
 
 // The file as clauses at the front of `out`, or, where that is too short, the length needed and `out` as it was.
-pub fn write_clauses(plan: Plan, edges: &[u16], atoms: &[u16], clauses: &[i16], out: &mut [i32]) -> Writing
+pub fn write_clauses(
+    plan: Plan,
+    edges: &[u16],
+    atoms: &[u16],
+    clauses: &[i16],
+    out: &mut [i32],
+) -> Writing
     requires { ⌜ Lent plan (now edges) (now atoms) (now clauses) ⌝ }
     ensures { λ r. ⌜ Writes (planOf plan (now (edges .entry)) (now (atoms .entry)) (now (clauses .entry))) (now (out .entry)) (now (out .exit)) r ⌝ }
 {

@@ -2,17 +2,17 @@
 -- Assumes nothing.
 use mathlib.Core.Path.{_≡_, refl, sym, _∙_, ap, ap₂, subst}
 use mathlib.Core.List.{List, [], _∷_, _++_, List·Memᴰ}
-use mathlib.Core.Bool.{Bool, true, false, not, true≢false, false≢true, _&&_, _||_, cond}
+use mathlib.Core.Bool.{Bool, true, false, not, _&&_, _||_}
 use mathlib.Core.Logic.{_↔_, _⊎_, inl, inr}
 use Prim.Native.Nat.{ℕ, zero, suc, _+_, _-_, _≤_, _<_}
 use native.Mathlib.Omega.{arith}
-use lib.IntN.{ℤ, pos, negsuc, natAbs}
+use lib.IntN.{ℤ, pos, negsuc}
 use lib.Dec.{T}
 use lib.ListN.{length, getD, length-append, List·getD-append}
 use lib.Seq.{ext-getD, getD-append-add}
-use Rattle.plan.specs.Meaning.{Edge, Atom, PlanFile, Graph, edge, on, off, value, isOn, isOff, trueIn, under, Full, HasTrue, IsTrue, IsRight, IsPlan}
-use Rattle.plan.specs.Ranged.{LiteralFits, EndsFit, Ranged, maxBound}
-use Rattle.plan.specs.Written.{levels, blocks, last, written, lastVariable, Satisfies, ExactlyOne}
+use Rattle.plan.specs.Meaning.{Edge, Atom, PlanFile, Graph, edge, on, value, isOn, isOff, trueIn, under, Full, IsRight, IsPlan}
+use Rattle.plan.specs.Ranged.{LiteralFits, Ranged, maxBound}
+use Rattle.plan.specs.Written.{levels, blocks, written, lastVariable, Satisfies, ExactlyOne}
 use Rattle.plan.proofs.Bools.{tab, anyOf, allOf, any-some, some-any, all-each, each-all, T-same, tab-length, tab-at}
 use Rattle.plan.proofs.Walks.{le-or-lt}
 use Rattle.plan.proofs.Levels.{isTrueAt?, isTrue?, true-iff}

@@ -1,7 +1,7 @@
 -- A block's variables have to have one value each: R(i, w) says that w is reached with i edges, T(i, e) that e is on and its start is.
 -- Assumes nothing.
 use mathlib.Core.Path.{_≡_, refl, sym, _∙_, ap, ap₂, subst, fun-ext}
-use mathlib.Core.List.{List, [], _∷_}
+use mathlib.Core.List.{List}
 use mathlib.Core.Bool.{Bool, true, false, _&&_, _||_, cond}
 use mathlib.Core.Logic.{_↔_, _⊎_, inl, inr}
 use Prim.Native.Nat.{ℕ, zero, suc, _+_, _*_, _-_, _/_, _%_, _≤_, _<_}
@@ -41,9 +41,9 @@ any-numbered : (test : Edge → Bool) (es : List Edge) → anyOf test es ≡ som
 any-numbered test es =
     T-same (anyOf test es) (some (length es) (λ k. test (edge es k)))
     (λ h.
-        let q = any-some test es h in
-        let r = at-mem es (record { from = 0; to = 0; variable = 0 }) (q .0) (q .1) in
-        some-iff (length es) (λ k. test (edge es k)) .1 (r .0, r .1, subst (λ e. T (test e)) (r .2) (q .2)))
+    let q = any-some test es h in
+    let r = at-mem es (record { from = 0; to = 0; variable = 0 }) (q .0) (q .1) in
+    some-iff (length es) (λ k. test (edge es k)) .1 (r .0, r .1, subst (λ e. T (test e)) (r .2) (q .2)))
     (λ h. let q = some-iff (length es) (λ k. test (edge es k)) .0 h in some-any test es (edge es (q .0)) (mem-at es _ (q .0) (q .1)) (q .2))
 
 module _ (n : ℕ) (es : List Edge) (f : Graph) (s : ℕ) where
@@ -70,8 +70,8 @@ module _ (n : ℕ) (es : List Edge) (f : Graph) (s : ℕ) where
       (any-numbered (λ e. f e && (eqb (e .to) w && at i (e .from))) es
       ∙ ap (some (length es))
       (fun-ext (λ k.
-          and-swap (f (edge es k)) (eqb (edge es k .to) w) (at i (edge es k .from))
-          ∙ ap (λ b. b && by i k) (eqb-sym (edge es k .to) w))))
+      and-swap (f (edge es k)) (eqb (edge es k .to) w) (at i (edge es k .from))
+      ∙ ap (λ b. b && by i k) (eqb-sym (edge es k .to) w))))
 
   -- the value of the block's variable j, counted from 0
   unfoldable pub valueAt : ℕ → Bool

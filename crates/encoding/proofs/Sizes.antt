@@ -1,6 +1,6 @@
 -- How many variables, clauses and numbers are written, and that they are few enough for 32-bit literals.
 -- Assumes nothing.
-use mathlib.Core.Path.{_≡_, refl, sym, _∙_, ap, ap₂, subst}
+use mathlib.Core.Path.{_≡_, refl, _∙_, ap, ap₂, subst}
 use mathlib.Core.List.{List, [], _∷_, _++_}
 use mathlib.Core.Bool.{Bool, true, false, cond}
 use mathlib.Core.Logic.{_⊎_, inl, inr}
@@ -13,7 +13,6 @@ use lib.ListN.{length, length-append}
 use Rattle.plan.specs.Meaning.{Edge, Atom, PlanFile, edge, on, off}
 use Rattle.plan.specs.Ranged.{literals, Ranged}
 use Rattle.plan.specs.Written.{each, flat, R, U, into, startClauses, edgeClauses, nodeClauses, levelClauses, endClauses, block, levelsOf, levels, blockVariables, blockClauses, blockNumbers, atomBlock, after, blocks, last, written, lastVariable}
-use Rattle.plan.proofs.Bools.{T-same}
 use Rattle.plan.proofs.Walks.{le-or-lt}
 use Rattle.encoding.specs.Counts.{total, Counted}
 use Rattle.encoding.proofs.Each.{below-zero, flat-append, flat-each, sum, sum-same, sum-const, sum-add, sum-mul, sum-swap, length-each}

@@ -2,8 +2,6 @@ use mathlib.Core.Path.{sym}
 use Rattle.clauses.proofs.Tabled.{atom-number}
 use Rattle.clauses.proofs.atom_count.Statement.{statement}
 use Rattle.clauses.proofs.atom_count.Tie as tie
-use Rattle.clauses.proofs.atom_count.Reads as reads
-use Rattle.clauses.proofs.atom_count.Lts as lts
 
 returns : tie.Need-returns
 returns c = sym (atom-number (c .args .atoms .now))

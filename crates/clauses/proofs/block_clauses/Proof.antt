@@ -3,20 +3,17 @@ use Prim.Native.Nat.{_+_, _*_}
 use native.Mathlib.Omega.{arith}
 use Rattle.plan.specs.Written.{blockClauses}
 use Rattle.encoding.proofs.Sizes.{level-product}
-use borrow.Author.Needs.{needs}
 use Rattle.clauses.proofs.block_clauses.Statement.{statement}
 use Rattle.clauses.proofs.block_clauses.Tie as tie
-use Rattle.clauses.proofs.block_clauses.Reads as reads
-use Rattle.clauses.proofs.block_clauses.Lts as lts
 
 mul-result : tie.Need-mul-result
-mul-result c = search needs
+mul-result c = omega arith
 
 mul-result-2 : tie.Need-mul-result-2
-mul-result-2 c = search needs
+mul-result-2 c = omega arith
 
 add-result : tie.Need-add-result
-add-result c = search needs
+add-result c = omega arith
 
 mul-result-3 : tie.Need-mul-result-3
 mul-result-3 c = omega (arith, level-product (c .args .nodes) (c .args .edges) (c .pre .nodes) (c .pre .edges) (c .args .top) (c .pre .levels) (4 * c .args .edges + 2 * c .args .nodes) 1152 (omega arith))

@@ -3,23 +3,20 @@ use Prim.Native.Nat.{_+_, _*_}
 use native.Mathlib.Omega.{arith}
 use Rattle.plan.specs.Written.{blockNumbers}
 use Rattle.encoding.proofs.Sizes.{level-product}
-use borrow.Author.Needs.{needs}
 use Rattle.clauses.proofs.block_numbers.Statement.{statement}
 use Rattle.clauses.proofs.block_numbers.Tie as tie
-use Rattle.clauses.proofs.block_numbers.Reads as reads
-use Rattle.clauses.proofs.block_numbers.Lts as lts
 
 mul-result : tie.Need-mul-result
-mul-result c = search needs
+mul-result c = omega arith
 
 mul-result-2 : tie.Need-mul-result-2
-mul-result-2 c = search needs
+mul-result-2 c = omega arith
 
 mul-result-3 : tie.Need-mul-result-3
-mul-result-3 c = search needs
+mul-result-3 c = omega arith
 
 add-result : tie.Need-add-result
-add-result c = search needs
+add-result c = omega arith
 
 mul-result-4 : tie.Need-mul-result-4
 mul-result-4 c = omega (arith, level-product (c .args .nodes) (c .args .edges) (c .pre .nodes) (c .pre .edges) (c .args .top) (c .pre .levels) (14 * c .args .edges + 6 * c .args .nodes) 3968 (omega arith))

@@ -1,16 +1,12 @@
 use mathlib.Core.Path.{refl}
-use Prim.Native.Nat.{_+_, _*_}
 use native.Mathlib.Omega.{arith}
 use Rattle.plan.specs.Written.{blockVariables}
 use Rattle.encoding.proofs.Sizes.{level-product}
-use borrow.Author.Needs.{needs}
 use Rattle.clauses.proofs.block_variables.Statement.{statement}
 use Rattle.clauses.proofs.block_variables.Tie as tie
-use Rattle.clauses.proofs.block_variables.Reads as reads
-use Rattle.clauses.proofs.block_variables.Lts as lts
 
 add-result : tie.Need-add-result
-add-result c = search needs
+add-result c = omega arith
 
 mul-result : tie.Need-mul-result
 mul-result c = omega (arith, level-product (c .args .nodes) (c .args .edges) (c .pre .nodes) (c .pre .edges) (c .args .top) (c .pre .levels) (c .args .nodes) 64 (c .pre .nodes), level-product (c .args .nodes) (c .args .edges) (c .pre .nodes) (c .pre .edges) (c .args .top) (c .pre .levels) (c .args .edges) 256 (c .pre .edges))

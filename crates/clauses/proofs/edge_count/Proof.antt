@@ -2,8 +2,6 @@ use mathlib.Core.Path.{sym}
 use Rattle.clauses.proofs.Tabled.{edge-number}
 use Rattle.clauses.proofs.edge_count.Statement.{statement}
 use Rattle.clauses.proofs.edge_count.Tie as tie
-use Rattle.clauses.proofs.edge_count.Reads as reads
-use Rattle.clauses.proofs.edge_count.Lts as lts
 
 returns : tie.Need-returns
 returns c = sym (edge-number (c .args .edges .now))

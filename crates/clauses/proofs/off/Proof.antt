@@ -1,15 +1,13 @@
 use mathlib.Core.Path.{sym, ap, subst, _∙_}
+use native.Mathlib.Omega.{arith}
 use mir.Syntax.{w32}
 use mir.Val.{SFits, toZ, ofZ}
 use Rattle.clauses.proofs.Numbers.{off-fits, kept-off, minus-is}
-use borrow.Author.Needs.{needs}
 use Rattle.clauses.proofs.off.Statement.{statement}
 use Rattle.clauses.proofs.off.Tie as tie
-use Rattle.clauses.proofs.off.Reads as reads
-use Rattle.clauses.proofs.off.Lts as lts
 
 cast-result : tie.Need-cast-result
-cast-result c = search needs
+cast-result c = omega arith
 
 sub-result : tie.Need-sub-result
 sub-result c = subst (λ z. SFits w32 z) (sym (minus-is (c .args .variable) (c .pre))) (off-fits (c .args .variable) (c .pre))

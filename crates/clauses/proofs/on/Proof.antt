@@ -1,12 +1,10 @@
+use native.Mathlib.Omega.{arith}
 use Rattle.clauses.proofs.Numbers.{kept-on}
-use borrow.Author.Needs.{needs}
 use Rattle.clauses.proofs.on.Statement.{statement}
 use Rattle.clauses.proofs.on.Tie as tie
-use Rattle.clauses.proofs.on.Reads as reads
-use Rattle.clauses.proofs.on.Lts as lts
 
 cast-result : tie.Need-cast-result
-cast-result c = search needs
+cast-result c = omega arith
 
 returns : tie.Need-returns
 returns c = kept-on (c .args .variable) (c .pre)

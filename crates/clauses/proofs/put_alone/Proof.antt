@@ -1,23 +1,18 @@
-use mathlib.Core.Path.{sym}
 use mathlib.Core.List.{[], _∷_}
+use mathlib.Core.Path.{sym}
 use native.Mathlib.Omega.{arith}
 use lib.IntN.{pos}
 use lib.ListN.{length-set}
 use Rattle.plan.specs.Meaning.{on, off}
 use Rattle.clauses.specs.Rows.{aloneRow}
+use Rattle.clauses.proofs.Choices.{alone-yes, alone-no}
 use Rattle.clauses.proofs.Fronts.{put-front, put-as, room-as}
 use Rattle.clauses.proofs.Numbers.{kept-on, kept-off}
-use Rattle.clauses.proofs.Choices.{alone-yes, alone-no}
-use borrow.Author.Needs.{needs}
 use Rattle.clauses.proofs.put_alone.Statement.{statement}
 use Rattle.clauses.proofs.put_alone.Tie as tie
-use Rattle.clauses.proofs.put_alone.Reads as reads
-use Rattle.clauses.proofs.put_alone.Lts as lts
-use Rattle.clauses.proofs.off.Reads as off-reads
-use Rattle.clauses.proofs.on.Reads as on-reads
 
 on-requires : tie.Need-on-requires
-on-requires c κs = search needs
+on-requires c κs = omega arith
 
 slice-set-from-x : tie.Need-slice-set-from-x
 unfolding aloneRow
@@ -28,7 +23,7 @@ unfolding aloneRow
 slice-set-of-out c = simp length-set (omega arith)
 
 same-length : tie.Need-same-length
-same-length c = search needs
+same-length c = simp length-set
 
 returns : tie.Need-returns
 returns c =
@@ -37,7 +32,7 @@ returns c =
     put-as e (rw (c .on .ensures, kept-on v (c .before .before .pre .1)) (put-front (on v ∷ pos 0 ∷ []) (c .before .before .args .out .now) (room-as (sym e) (c .before .before .pre .0))))
 
 off-requires : tie.Need-off-requires
-off-requires c κs = search needs
+off-requires c κs = omega arith
 
 slice-set-from-y : tie.Need-slice-set-from-y
 unfolding aloneRow
@@ -48,7 +43,7 @@ unfolding aloneRow
 slice-set-of-out-2 c = simp length-set (omega arith)
 
 same-length-2 : tie.Need-same-length-2
-same-length-2 c = search needs
+same-length-2 c = simp length-set
 
 returns-2 : tie.Need-returns-2
 returns-2 c =

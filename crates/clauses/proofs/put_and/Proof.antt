@@ -1,123 +1,74 @@
-use lib.IntN.{pos}
-use mathlib.Core.Path.{refl}
-use mathlib.Core.List.{[], _∷_}
-use lib.ListN.{length-set}
 use native.Mathlib.Omega.{arith}
-use Rattle.plan.specs.Meaning.{on, off}
-use Rattle.clauses.proofs.Fronts.{put-front}
-use Rattle.clauses.proofs.Numbers.{kept-on, kept-off}
 use Rattle.clauses.specs.Rows.{andRow}
-use borrow.Author.Needs.{needs}
+use Rattle.clauses.proofs.Fronts.{room-first, room-rest, put-then}
 use Rattle.clauses.proofs.put_and.Statement.{statement}
 use Rattle.clauses.proofs.put_and.Tie as tie
-use Rattle.clauses.proofs.put_and.Reads as reads
-use Rattle.clauses.proofs.put_and.Lts as lts
-use Rattle.clauses.proofs.off.Reads as off-reads
-use Rattle.clauses.proofs.on.Reads as on-reads
 
-on-requires : tie.Need-on-requires
-on-requires c κs = search needs
-
-off-requires : tie.Need-off-requires
-off-requires c κs = search needs
-
-on-requires-2 : tie.Need-on-requires-2
-on-requires-2 c κs = search needs
-
-off-requires-2 : tie.Need-off-requires-2
-off-requires-2 c κs = search needs
-
-on-requires-3 : tie.Need-on-requires-3
-on-requires-3 c κs = search needs
-
-off-requires-3 : tie.Need-off-requires-3
-off-requires-3 c κs = search needs
-
-slice-set-from-t-off : tie.Need-slice-set-from-t-off
+put-gives-requires : tie.Need-put-gives-requires
 unfolding andRow
-slice-set-from-t-off c = omega arith
+put-gives-requires c κs = (room-first _ _ (room-first _ _ (c .before .pre .0)), omega arith)
 
-slice-set-from-x-on : tie.Need-slice-set-from-x-on
-unfolding andRow
-slice-set-from-x-on c = simp length-set (omega arith)
+mul-put-gives : tie.Need-mul-put-gives
+mul-put-gives c = omega arith
 
-slice-set-of-out : tie.Need-slice-set-of-out
-unfolding andRow
-slice-set-of-out c = simp length-set (omega arith)
+sub-put-gives : tie.Need-sub-put-gives
+sub-put-gives c = omega arith
 
-slice-set-from-t-off-2 : tie.Need-slice-set-from-t-off-2
-unfolding andRow
-slice-set-from-t-off-2 c = simp length-set (omega arith)
+part-put-gives-start : tie.Need-part-put-gives-start
+part-put-gives-start c = omega arith
 
-slice-set-from-r-on : tie.Need-slice-set-from-r-on
-unfolding andRow
-slice-set-from-r-on c = simp length-set (omega arith)
+part-put-gives-end : tie.Need-part-put-gives-end
+part-put-gives-end c = omega arith
 
-slice-set-of-out-2 : tie.Need-slice-set-of-out-2
+put-gives-requires-2 : tie.Need-put-gives-requires-2
 unfolding andRow
-slice-set-of-out-2 c = simp length-set (omega arith)
+put-gives-requires-2 c κs = (room-rest _ _ (room-first _ _ (c .before .before .before .before .pre .0)) (c .before .before .put-gives .ensures), omega arith)
 
-slice-set-from-x-off : tie.Need-slice-set-from-x-off
-unfolding andRow
-slice-set-from-x-off c = simp length-set (omega arith)
+add-used : tie.Need-add-used
+add-used c = omega arith
 
-slice-set-from-r-off : tie.Need-slice-set-from-r-off
-unfolding andRow
-slice-set-from-r-off c = simp length-set (omega arith)
+mul-put-both : tie.Need-mul-put-both
+mul-put-both c = omega arith
 
-slice-set-from-t-on : tie.Need-slice-set-from-t-on
-unfolding andRow
-slice-set-from-t-on c = simp length-set (omega arith)
+sub-put-both : tie.Need-sub-put-both
+sub-put-both c = omega arith
 
-slice-set-of-out-3 : tie.Need-slice-set-of-out-3
+part-put-both-start : tie.Need-part-put-both-start
+part-put-both-start c = omega arith
+
+part-put-both-end : tie.Need-part-put-both-end
+part-put-both-end c = omega arith
+
+put-both-requires : tie.Need-put-both-requires
 unfolding andRow
-slice-set-of-out-3 c = simp length-set (omega arith)
+put-both-requires c κs = (room-rest _ _ (c .before .before .before .before .before .before .before .pre .0) (put-then (c .before .before .before .before .before .put-gives .ensures) (c .before .before .put-gives2 .ensures)), omega arith)
+
+add-result : tie.Need-add-result
+add-result c = omega arith
 
 same-length : tie.Need-same-length
-same-length c = simp length-set refl
+same-length c = omega arith
 
 returns : tie.Need-returns
 unfolding andRow
-returns c =
-    let s = c .before .before .before .before .before .before in
-    let t = s .args .t in
-    let x = s .args .x in
-    let r = s .args .r in
-    rw (
-      c .before .before .before .before .before .on .ensures,
-      c .before .before .before .before .off .ensures,
-      c .before .before .before .on2 .ensures,
-      c .before .before .off2 .ensures,
-      c .before .on3 .ensures,
-      c .off3 .ensures,
-      kept-off t (s .pre .1 .0),
-      kept-on x (s .pre .1 .1),
-      kept-on r (s .pre .1 .2),
-      kept-off x (s .pre .1 .1),
-      kept-off r (s .pre .1 .2),
-      kept-on t (s .pre .1 .0),
-    )
-    (put-front (andRow t x r) (s .args .out .now) (s .pre .0))
+returns c = put-then (put-then (c .before .before .before .before .before .before .before .put-gives .ensures) (c .before .before .before .before .put-gives2 .ensures)) (c .before .put-both .ensures)
 
 pub put-and-spec : {M : Type 1} → statement M
 put-and-spec =
     tie.close
     (tie.spec
-    on-requires
-    off-requires
-    on-requires-2
-    off-requires-2
-    on-requires-3
-    off-requires-3
-    slice-set-from-t-off
-    slice-set-from-x-on
-    slice-set-of-out
-    slice-set-from-t-off-2
-    slice-set-from-r-on
-    slice-set-of-out-2
-    slice-set-from-x-off
-    slice-set-from-r-off
-    slice-set-from-t-on
-    slice-set-of-out-3
+    put-gives-requires
+    mul-put-gives
+    sub-put-gives
+    part-put-gives-start
+    part-put-gives-end
+    put-gives-requires-2
+    add-used
+    mul-put-both
+    sub-put-both
+    part-put-both-start
+    part-put-both-end
+    put-both-requires
+    add-result
     same-length
     returns)

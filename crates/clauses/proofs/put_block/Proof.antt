@@ -4,70 +4,62 @@ use native.Mathlib.Omega.{arith}
 use Rattle.plan.specs.Tables.{edgesOf}
 use Rattle.clauses.proofs.Fronts.{room-first, room-rest, room-as, put-as, put-then}
 use Rattle.clauses.proofs.Rows.{block-row, end-low}
-use borrow.Author.Needs.{needs}
 use Rattle.clauses.proofs.put_block.Statement.{statement}
 use Rattle.clauses.proofs.put_block.Tie as tie
-use Rattle.clauses.proofs.put_block.Reads as reads
-use Rattle.clauses.proofs.put_block.Lts as lts
-use Rattle.clauses.proofs.edge_count.Reads as edge-count-reads
-use Rattle.clauses.proofs.put_end.Reads as put-end-reads
-use Rattle.clauses.proofs.put_levels.Reads as put-levels-reads
-use Rattle.clauses.proofs.put_start.Reads as put-start-reads
-use Rattle.plan.proofs.wide.Reads as wide-reads
 
 wide-requires : tie.Need-wide-requires
-wide-requires c κs = search needs
+wide-requires c κs = omega arith
 
 wide-requires-2 : tie.Need-wide-requires-2
-wide-requires-2 c κs = search needs
+wide-requires-2 c κs = omega arith
 
 wide-requires-3 : tie.Need-wide-requires-3
-wide-requires-3 c κs = search needs
+wide-requires-3 c κs = omega arith
 
 edge-count-requires : tie.Need-edge-count-requires
-edge-count-requires c κs = search needs
+edge-count-requires c κs = omega arith
 
 add-step : tie.Need-add-step
-add-step c = search needs
+add-step c = omega arith
 
 add-put-start : tie.Need-add-put-start
-add-put-start c = search needs
+add-put-start c = omega arith
 
 put-start-requires : tie.Need-put-start-requires
 put-start-requires c κs = (room-first _ _ (room-first _ _ (room-as (sym (block-row (c .before .before .before .before .before .before .args .nodes) (edgesOf (c .before .before .before .before .before .before .args .edges .now)) (c .before .before .before .before .before .before .args .base) (c .before .before .before .before .before .before .args .top) _ _ _ _ _ _ _ (ap (λ m. c .before .before .before .before .before .before .args .nodes + m) (c .before .edge-count .ensures)) (c .before .before .before .before .wide .ensures) (c .before .before .before .wide2 .ensures) (c .before .before .wide3 .ensures))) (c .before .before .before .before .before .before .pre .0))), omega arith)
 
 mul-put-levels : tie.Need-mul-put-levels
-mul-put-levels c = search needs
+mul-put-levels c = omega arith
 
 sub-put-levels : tie.Need-sub-put-levels
-sub-put-levels c = search needs
+sub-put-levels c = omega arith
 
 part-put-levels-start : tie.Need-part-put-levels-start
-part-put-levels-start c = search needs
+part-put-levels-start c = omega arith
 
 part-put-levels-end : tie.Need-part-put-levels-end
-part-put-levels-end c = search needs
+part-put-levels-end c = omega arith
 
 put-levels-requires : tie.Need-put-levels-requires
 put-levels-requires c κs = (room-rest _ _ (room-first _ _ (room-as (sym (block-row (c .before .before .before .before .before .before .before .before .before .args .nodes) (edgesOf (c .before .before .before .before .before .before .before .before .before .args .edges .now)) (c .before .before .before .before .before .before .before .before .before .args .base) (c .before .before .before .before .before .before .before .before .before .args .top) _ _ _ _ _ _ _ (ap (λ m. c .before .before .before .before .before .before .before .before .before .args .nodes + m) (c .before .before .before .before .edge-count .ensures)) (c .before .before .before .before .before .before .before .wide .ensures) (c .before .before .before .before .before .before .wide2 .ensures) (c .before .before .before .before .before .wide3 .ensures))) (c .before .before .before .before .before .before .before .before .before .pre .0))) (c .before .before .put-start .ensures), c .before .before .before .before .before .before .before .before .before .pre .1)
 
 add-used : tie.Need-add-used
-add-used c = search needs
+add-used c = omega arith
 
 mul-put-end : tie.Need-mul-put-end
-mul-put-end c = search needs
+mul-put-end c = omega arith
 
 sub-put-end : tie.Need-sub-put-end
-sub-put-end c = search needs
+sub-put-end c = omega arith
 
 part-put-end-start : tie.Need-part-put-end-start
-part-put-end-start c = search needs
+part-put-end-start c = omega arith
 
 part-put-end-end : tie.Need-part-put-end-end
-part-put-end-end c = search needs
+part-put-end-end c = omega arith
 
 add-put-end : tie.Need-add-put-end
-add-put-end c = search needs
+add-put-end c = omega arith
 
 mul-put-end-2 : tie.Need-mul-put-end-2
 mul-put-end-2 c = omega (arith, end-low (c .before .before .before .before .before .before .before .before .before .before .before .before .pre .1) (c .before .before .before .before .before .before .before .edge-count .ensures))
@@ -82,10 +74,10 @@ put-end-requires : tie.Need-put-end-requires
 put-end-requires c κs = (room-rest _ _ (room-as (sym (block-row (c .before .before .before .before .before .before .before .before .before .before .before .before .args .nodes) (edgesOf (c .before .before .before .before .before .before .before .before .before .before .before .before .args .edges .now)) (c .before .before .before .before .before .before .before .before .before .before .before .before .args .base) (c .before .before .before .before .before .before .before .before .before .before .before .before .args .top) _ _ _ _ _ _ _ (ap (λ m. c .before .before .before .before .before .before .before .before .before .before .before .before .args .nodes + m) (c .before .before .before .before .before .before .before .edge-count .ensures)) (c .before .before .before .before .before .before .before .before .before .before .wide .ensures) (c .before .before .before .before .before .before .before .before .before .wide2 .ensures) (c .before .before .before .before .before .before .before .before .wide3 .ensures))) (c .before .before .before .before .before .before .before .before .before .before .before .before .pre .0)) (put-then (c .before .before .before .before .before .put-start .ensures) (c .before .before .put-levels .ensures)), omega (arith, end-low (c .before .before .before .before .before .before .before .before .before .before .before .before .pre .1) (c .before .before .before .before .before .before .before .edge-count .ensures)))
 
 add-result : tie.Need-add-result
-add-result c = search needs
+add-result c = omega arith
 
 same-length : tie.Need-same-length
-same-length c = search needs
+same-length c = omega arith
 
 returns : tie.Need-returns
 returns c = put-as (block-row (c .before .before .before .before .before .before .before .before .before .before .before .before .before .before .args .nodes) (edgesOf (c .before .before .before .before .before .before .before .before .before .before .before .before .before .before .args .edges .now)) (c .before .before .before .before .before .before .before .before .before .before .before .before .before .before .args .base) (c .before .before .before .before .before .before .before .before .before .before .before .before .before .before .args .top) _ _ _ _ _ _ _ (ap (λ m. c .before .before .before .before .before .before .before .before .before .before .before .before .before .before .args .nodes + m) (c .before .before .before .before .before .before .before .before .before .edge-count .ensures)) (c .before .before .before .before .before .before .before .before .before .before .before .before .wide .ensures) (c .before .before .before .before .before .before .before .before .before .before .before .wide2 .ensures) (c .before .before .before .before .before .before .before .before .before .before .wide3 .ensures)) (put-then (put-then (c .before .before .before .before .before .before .before .put-start .ensures) (c .before .before .before .before .put-levels .ensures)) (c .before .put-end .ensures))

@@ -5,20 +5,12 @@ use lib.ListN.{length}
 use Rattle.plan.specs.Meaning.{atom}
 use Rattle.plan.specs.Tables.{edgesOf, atomsOf, atomOf}
 use Rattle.plan.specs.Written.{flat, blockVariables, atomBlock, last}
-use Rattle.clauses.proofs.Fronts.{rest-length, put-as, room-as}
 use Rattle.clauses.proofs.Filling.{Filling, filling-start, filling-room, filling-turn, filling-end}
-use Rattle.clauses.proofs.Tabled.{atom-place}
+use Rattle.clauses.proofs.Fronts.{rest-length, put-as, room-as}
 use Rattle.clauses.proofs.Stepping.{before, blocks-each, next-row, next-before, next-last, next-low, next-limits}
+use Rattle.clauses.proofs.Tabled.{atom-place}
 use Rattle.clauses.proofs.put_blocks.Statement.{statement}
 use Rattle.clauses.proofs.put_blocks.Tie as tie
-use Rattle.clauses.proofs.put_blocks.Reads as reads
-use Rattle.clauses.proofs.put_blocks.Lts as lts
-use Rattle.clauses.proofs.atom_count.Reads as atom-count-reads
-use Rattle.clauses.proofs.block_variables.Reads as block-variables-reads
-use Rattle.clauses.proofs.edge_count.Reads as edge-count-reads
-use Rattle.clauses.proofs.levels_of.Reads as levels-of-reads
-use Rattle.clauses.proofs.put_block.Reads as put-block-reads
-use Rattle.plan.proofs.atom_at.Reads as atom-at-reads
 
 abbrev Inv-loop : tie.InvT-loop
 Inv-loop out₀ edges atoms nodes base edge-number atom-number last₀ used₀ j₀ out last used j = Filling (λ i. flat (atomBlock nodes (edgesOf edges) (before nodes (edgesOf edges) base (atomsOf atoms) i) (atom (atomsOf atoms) i))) (length (atomsOf atoms)) out₀ out used j × (last ≡ before nodes (edgesOf edges) base (atomsOf atoms) j)
@@ -73,11 +65,10 @@ loop-less : tie.Need-loop-less Inv-loop μ-loop
 loop-less c = omega arith
 
 loop-again : tie.Need-loop-again Inv-loop μ-loop
-loop-again c =
-    (
-      filling-turn (c .before .before .before .before .before .before .before .loop .inv .0) (omega arith) (put-as (next-row (c .before .before .before .before .before .before .before .before .before .before .before .before .args .nodes) (edgesOf (c .before .before .before .before .before .before .before .before .before .before .before .before .args .edges .now)) (c .before .before .before .before .before .before .before .before .before .before .before .before .args .base) (atomsOf (c .before .before .before .before .before .before .before .before .before .before .before .before .args .atoms .now)) (c .before .before .before .before .before .before .before .before .before .before .before .before .pre .1) (c .before .before .before .before .before .before .before .loop .j) (omega arith) (c .before .before .before .before .before .before .before .loop .last) (c .before .before .before .before .levels-of .result) (c .before .before .before .before .before .before .before .loop .inv .1) (atomOf (c .before .before .before .before .before .atom-at .result)) (c .before .before .before .before .before .atom-at .ensures) (c .before .before .before .before .levels-of .ensures)) (c .before .before .put-block .ensures)),
-      ap (λ v. c .before .before .before .before .before .before .before .loop .last + v) (c .block-variables .ensures ∙ ap (λ m. blockVariables (c .before .before .before .before .before .before .before .before .before .before .before .before .args .nodes) m (c .before .before .before .before .levels-of .result)) (c .before .before .before .before .before .before .before .before .before .edge-count .ensures)) ∙ next-before (c .before .before .before .before .before .before .before .before .before .before .before .before .args .nodes) (edgesOf (c .before .before .before .before .before .before .before .before .before .before .before .before .args .edges .now)) (c .before .before .before .before .before .before .before .before .before .before .before .before .args .base) (atomsOf (c .before .before .before .before .before .before .before .before .before .before .before .before .args .atoms .now)) (c .before .before .before .before .before .before .before .before .before .before .before .before .pre .1) (c .before .before .before .before .before .before .before .loop .j) (omega arith) (c .before .before .before .before .before .before .before .loop .last) (c .before .before .before .before .levels-of .result) (c .before .before .before .before .before .before .before .loop .inv .1) (atomOf (c .before .before .before .before .before .atom-at .result)) (c .before .before .before .before .before .atom-at .ensures) (c .before .before .before .before .levels-of .ensures),
-    )
+loop-again c = (
+  filling-turn (c .before .before .before .before .before .before .before .loop .inv .0) (omega arith) (put-as (next-row (c .before .before .before .before .before .before .before .before .before .before .before .before .args .nodes) (edgesOf (c .before .before .before .before .before .before .before .before .before .before .before .before .args .edges .now)) (c .before .before .before .before .before .before .before .before .before .before .before .before .args .base) (atomsOf (c .before .before .before .before .before .before .before .before .before .before .before .before .args .atoms .now)) (c .before .before .before .before .before .before .before .before .before .before .before .before .pre .1) (c .before .before .before .before .before .before .before .loop .j) (omega arith) (c .before .before .before .before .before .before .before .loop .last) (c .before .before .before .before .levels-of .result) (c .before .before .before .before .before .before .before .loop .inv .1) (atomOf (c .before .before .before .before .before .atom-at .result)) (c .before .before .before .before .before .atom-at .ensures) (c .before .before .before .before .levels-of .ensures)) (c .before .before .put-block .ensures)),
+  ap (λ v. c .before .before .before .before .before .before .before .loop .last + v) (c .block-variables .ensures ∙ ap (λ m. blockVariables (c .before .before .before .before .before .before .before .before .before .before .before .before .args .nodes) m (c .before .before .before .before .levels-of .result)) (c .before .before .before .before .before .before .before .before .before .edge-count .ensures)) ∙ next-before (c .before .before .before .before .before .before .before .before .before .before .before .before .args .nodes) (edgesOf (c .before .before .before .before .before .before .before .before .before .before .before .before .args .edges .now)) (c .before .before .before .before .before .before .before .before .before .before .before .before .args .base) (atomsOf (c .before .before .before .before .before .before .before .before .before .before .before .before .args .atoms .now)) (c .before .before .before .before .before .before .before .before .before .before .before .before .pre .1) (c .before .before .before .before .before .before .before .loop .j) (omega arith) (c .before .before .before .before .before .before .before .loop .last) (c .before .before .before .before .levels-of .result) (c .before .before .before .before .before .before .before .loop .inv .1) (atomOf (c .before .before .before .before .before .atom-at .result)) (c .before .before .before .before .before .atom-at .ensures) (c .before .before .before .before .levels-of .ensures),
+)
 
 same-length : tie.Need-same-length Inv-loop μ-loop
 same-length c = omega arith

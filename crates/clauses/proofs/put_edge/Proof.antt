@@ -1,28 +1,23 @@
 use native.Mathlib.Omega.{arith}
 use Rattle.clauses.specs.Rows.{edgeRow}
-use borrow.Author.Needs.{needs}
 use Rattle.clauses.proofs.put_edge.Statement.{statement}
 use Rattle.clauses.proofs.put_edge.Tie as tie
-use Rattle.clauses.proofs.put_edge.Reads as reads
-use Rattle.clauses.proofs.put_edge.Lts as lts
-use Rattle.clauses.proofs.put_and.Reads as put-and-reads
-use Rattle.plan.proofs.wide.Reads as wide-reads
 
 wide-requires : tie.Need-wide-requires
-wide-requires c κs = search needs
+wide-requires c κs = omega arith
 
 wide-requires-2 : tie.Need-wide-requires-2
-wide-requires-2 c κs = search needs
+wide-requires-2 c κs = omega arith
 
 add-put-and : tie.Need-add-put-and
-add-put-and c = search needs
+add-put-and c = omega arith
 
 put-and-requires : tie.Need-put-and-requires
 unfolding edgeRow
 put-and-requires c κs = (rw (c .before .before .wide .ensures, c .before .wide2 .ensures) (c .before .before .before .pre .0), omega arith)
 
 same-length : tie.Need-same-length
-same-length c = search needs
+same-length c = omega arith
 
 returns : tie.Need-returns
 unfolding edgeRow

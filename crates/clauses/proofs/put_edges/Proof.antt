@@ -1,20 +1,15 @@
+use mathlib.Core.Path.{sym, ap}
 use Prim.Native.Nat.{_+_, _-_}
 use native.Mathlib.Omega.{arith}
-use mathlib.Core.Path.{sym, ap}
 use lib.ListN.{length}
 use Rattle.plan.specs.Meaning.{edge}
 use Rattle.plan.specs.Tables.{edgesOf}
-use Rattle.clauses.proofs.Tabled.{edge-place}
 use Rattle.clauses.specs.Rows.{edgeRow, edgesRow}
-use Rattle.clauses.proofs.Fronts.{rest-length, put-as, room-as}
 use Rattle.clauses.proofs.Filling.{Filling, filling-start, filling-room, filling-turn, filling-end}
+use Rattle.clauses.proofs.Fronts.{rest-length, put-as, room-as}
+use Rattle.clauses.proofs.Tabled.{edge-place}
 use Rattle.clauses.proofs.put_edges.Statement.{statement}
 use Rattle.clauses.proofs.put_edges.Tie as tie
-use Rattle.clauses.proofs.put_edges.Reads as reads
-use Rattle.clauses.proofs.put_edges.Lts as lts
-use Rattle.clauses.proofs.edge_count.Reads as edge-count-reads
-use Rattle.clauses.proofs.put_edge.Reads as put-edge-reads
-use Rattle.plan.proofs.edge_at.Reads as edge-at-reads
 
 abbrev Inv-loop : tie.InvT-loop
 Inv-loop out₀ edges level count used₀ k₀ out used k = Filling (λ j. edgeRow (edge (edgesOf edges) j) (level .edges + j) (level .nodes)) (length (edgesOf edges)) out₀ out used k

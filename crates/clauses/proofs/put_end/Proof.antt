@@ -1,31 +1,24 @@
-use lib.IntN.{pos}
 use mathlib.Core.Path.{refl}
-use mathlib.Core.List.{[], _∷_}
-use lib.ListN.{length-set}
 use native.Mathlib.Omega.{arith}
+use lib.ListN.{length-set}
 use Rattle.plan.specs.Meaning.{on, off}
+use Rattle.clauses.specs.Rows.{endRow}
 use Rattle.clauses.proofs.Fronts.{put-front}
 use Rattle.clauses.proofs.Numbers.{kept-on, kept-off}
-use Rattle.clauses.specs.Rows.{endRow}
-use borrow.Author.Needs.{needs}
 use Rattle.clauses.proofs.put_end.Statement.{statement}
 use Rattle.clauses.proofs.put_end.Tie as tie
-use Rattle.clauses.proofs.put_end.Reads as reads
-use Rattle.clauses.proofs.put_end.Lts as lts
-use Rattle.clauses.proofs.off.Reads as off-reads
-use Rattle.clauses.proofs.on.Reads as on-reads
 
 on-requires : tie.Need-on-requires
-on-requires c κs = search needs
+on-requires c κs = omega arith
 
 off-requires : tie.Need-off-requires
-off-requires c κs = search needs
+off-requires c κs = omega arith
 
 on-requires-2 : tie.Need-on-requires-2
-on-requires-2 c κs = search needs
+on-requires-2 c κs = omega arith
 
 off-requires-2 : tie.Need-off-requires-2
-off-requires-2 c κs = search needs
+off-requires-2 c κs = omega arith
 
 slice-set-from-a-off : tie.Need-slice-set-from-a-off
 unfolding endRow

@@ -1,25 +1,17 @@
-use lib.IntN.{pos}
-use mathlib.Core.Path.{refl}
-use mathlib.Core.List.{[], _∷_}
-use lib.ListN.{length-set}
 use native.Mathlib.Omega.{arith}
+use lib.ListN.{length-set}
 use Rattle.plan.specs.Meaning.{on, off}
 use Rattle.clauses.specs.Rows.{givesRow}
 use Rattle.clauses.proofs.Fronts.{put-front}
 use Rattle.clauses.proofs.Numbers.{kept-on, kept-off}
-use borrow.Author.Needs.{needs}
 use Rattle.clauses.proofs.put_gives.Statement.{statement}
 use Rattle.clauses.proofs.put_gives.Tie as tie
-use Rattle.clauses.proofs.put_gives.Reads as reads
-use Rattle.clauses.proofs.put_gives.Lts as lts
-use Rattle.clauses.proofs.off.Reads as off-reads
-use Rattle.clauses.proofs.on.Reads as on-reads
 
 off-requires : tie.Need-off-requires
-off-requires c κs = search needs
+off-requires c κs = omega arith
 
 on-requires : tie.Need-on-requires
-on-requires c κs = search needs
+on-requires c κs = omega arith
 
 slice-set-from-x : tie.Need-slice-set-from-x
 unfolding givesRow
@@ -34,7 +26,7 @@ unfolding givesRow
 slice-set-of-out c = simp length-set (omega arith)
 
 same-length : tie.Need-same-length
-same-length c = search needs
+same-length c = simp length-set
 
 returns : tie.Need-returns
 unfolding givesRow

@@ -1,23 +1,19 @@
 use mathlib.Core.Path.{sym, _∙_}
+use native.Mathlib.Omega.{arith}
 use Rattle.plan.specs.Tables.{edgeOf}
-use Rattle.clauses.proofs.Fronts.{put-none, put-as, room-as}
 use Rattle.clauses.proofs.Choices.{into-yes, into-no}
-use borrow.Author.Needs.{needs}
+use Rattle.clauses.proofs.Fronts.{put-none, put-as, room-as}
 use Rattle.clauses.proofs.put_into.Statement.{statement}
 use Rattle.clauses.proofs.put_into.Tie as tie
-use Rattle.clauses.proofs.put_into.Reads as reads
-use Rattle.clauses.proofs.put_into.Lts as lts
-use Rattle.clauses.proofs.put_gives.Reads as put-gives-reads
-use Rattle.plan.proofs.wide.Reads as wide-reads
 
 wide-requires : tie.Need-wide-requires
-wide-requires c κs = search needs
+wide-requires c κs = omega arith
 
 put-gives-requires : tie.Need-put-gives-requires
 put-gives-requires c κs = (room-as (sym (into-yes (c .before .before .before .args .w) (edgeOf (c .before .before .before .args .edge)) (c .before .before .before .args .t) (c .before .before .before .args .q) (c .before .if1 .taken ∙ c .before .before .wide .ensures))) (c .before .before .before .pre .0), c .before .before .before .pre .1)
 
 same-length : tie.Need-same-length
-same-length c = search needs
+same-length c = omega arith
 
 returns : tie.Need-returns
 returns c = put-as (into-yes (c .before .before .before .before .before .args .w) (edgeOf (c .before .before .before .before .before .args .edge)) (c .before .before .before .before .before .args .t) (c .before .before .before .before .before .args .q) (c .before .before .before .if1 .taken ∙ c .before .before .before .before .wide .ensures)) (c .before .put-gives .ensures)

@@ -1,20 +1,15 @@
+use mathlib.Core.Path.{sym, ap}
 use Prim.Native.Nat.{_+_, _-_}
 use native.Mathlib.Omega.{arith}
-use mathlib.Core.Path.{sym, ap}
 use lib.ListN.{length}
 use Rattle.plan.specs.Meaning.{edge}
 use Rattle.plan.specs.Tables.{edgesOf}
-use Rattle.clauses.proofs.Tabled.{edge-place}
 use Rattle.clauses.specs.Rows.{intoRow, intosRow}
-use Rattle.clauses.proofs.Fronts.{rest-length, put-as, room-as}
 use Rattle.clauses.proofs.Filling.{Filling, filling-start, filling-room, filling-turn, filling-end}
+use Rattle.clauses.proofs.Fronts.{rest-length, put-as, room-as}
+use Rattle.clauses.proofs.Tabled.{edge-place}
 use Rattle.clauses.proofs.put_intos.Statement.{statement}
 use Rattle.clauses.proofs.put_intos.Tie as tie
-use Rattle.clauses.proofs.put_intos.Reads as reads
-use Rattle.clauses.proofs.put_intos.Lts as lts
-use Rattle.clauses.proofs.edge_count.Reads as edge-count-reads
-use Rattle.clauses.proofs.put_into.Reads as put-into-reads
-use Rattle.plan.proofs.edge_at.Reads as edge-at-reads
 
 abbrev Inv-loop : tie.InvT-loop
 Inv-loop out₀ edges first q w count used₀ k₀ out used k = Filling (λ j. intoRow w (edge (edgesOf edges) j) (first + j) q) (length (edgesOf edges)) out₀ out used k

@@ -3,15 +3,11 @@ use Prim.Native.Nat.{_+_, _-_}
 use native.Mathlib.Omega.{arith}
 use Rattle.plan.specs.Tables.{edgesOf}
 use Rattle.clauses.specs.Rows.{levelRow, levelsRow, firstAt, levelFrom}
-use Rattle.clauses.proofs.Fronts.{rest-length, put-as, room-as}
 use Rattle.clauses.proofs.Filling.{Filling, filling-start, filling-room, filling-turn, filling-end}
+use Rattle.clauses.proofs.Fronts.{rest-length, put-as, room-as}
 use Rattle.clauses.proofs.Rows.{level-row, level-low}
 use Rattle.clauses.proofs.put_levels.Statement.{statement}
 use Rattle.clauses.proofs.put_levels.Tie as tie
-use Rattle.clauses.proofs.put_levels.Reads as reads
-use Rattle.clauses.proofs.put_levels.Lts as lts
-use Rattle.clauses.proofs.edge_count.Reads as edge-count-reads
-use Rattle.clauses.proofs.put_level.Reads as put-level-reads
 
 abbrev Inv-loop : tie.InvT-loop
 Inv-loop out₀ edges nodes base top step first₀ used₀ i₀ out first used i = Filling (λ j. levelRow (edgesOf edges) nodes (levelFrom (edgesOf edges) nodes (firstAt (edgesOf edges) nodes base j))) top out₀ out used i × (first ≡ firstAt (edgesOf edges) nodes base i)

@@ -1,30 +1,26 @@
-use mathlib.Core.Path.{sym, _∙_}
 use mathlib.Core.List.{[], _∷_}
+use mathlib.Core.Path.{sym, _∙_}
 use native.Mathlib.Omega.{arith}
+use lib.ListN.{length-set}
 use Rattle.plan.specs.Meaning.{on}
 use Rattle.plan.specs.Tables.{edgeOf}
+use Rattle.clauses.proofs.Choices.{literal-yes, literal-no}
 use Rattle.clauses.proofs.Fronts.{put-front, put-none, put-as, room-as}
 use Rattle.clauses.proofs.Numbers.{kept-on}
-use Rattle.clauses.proofs.Choices.{literal-yes, literal-no}
-use borrow.Author.Needs.{needs}
 use Rattle.clauses.proofs.put_literal.Statement.{statement}
 use Rattle.clauses.proofs.put_literal.Tie as tie
-use Rattle.clauses.proofs.put_literal.Reads as reads
-use Rattle.clauses.proofs.put_literal.Lts as lts
-use Rattle.clauses.proofs.on.Reads as on-reads
-use Rattle.plan.proofs.wide.Reads as wide-reads
 
 wide-requires : tie.Need-wide-requires
-wide-requires c κs = search needs
+wide-requires c κs = omega arith
 
 on-requires : tie.Need-on-requires
-on-requires c κs = search needs
+on-requires c κs = omega arith
 
 slice-set-from-x : tie.Need-slice-set-from-x
 slice-set-from-x c = omega (arith, room-as (sym (literal-yes (c .before .before .before .args .w) (edgeOf (c .before .before .before .args .edge)) (c .before .before .before .args .t) (c .before .if1 .taken ∙ c .before .before .wide .ensures))) (c .before .before .before .pre .0) .fits)
 
 same-length : tie.Need-same-length
-same-length c = search needs
+same-length c = simp length-set
 
 returns : tie.Need-returns
 returns c =

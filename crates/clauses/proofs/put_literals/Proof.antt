@@ -1,20 +1,15 @@
+use mathlib.Core.Path.{sym, ap}
 use Prim.Native.Nat.{_+_, _-_}
 use native.Mathlib.Omega.{arith}
-use mathlib.Core.Path.{sym, ap}
 use lib.ListN.{length}
 use Rattle.plan.specs.Meaning.{edge}
 use Rattle.plan.specs.Tables.{edgesOf}
-use Rattle.clauses.proofs.Tabled.{edge-place}
 use Rattle.clauses.specs.Rows.{literalRow, literalsRow}
-use Rattle.clauses.proofs.Fronts.{rest-length, put-as, room-as}
 use Rattle.clauses.proofs.Filling.{Filling, filling-start, filling-room, filling-turn, filling-end}
+use Rattle.clauses.proofs.Fronts.{rest-length, put-as, room-as}
+use Rattle.clauses.proofs.Tabled.{edge-place}
 use Rattle.clauses.proofs.put_literals.Statement.{statement}
 use Rattle.clauses.proofs.put_literals.Tie as tie
-use Rattle.clauses.proofs.put_literals.Reads as reads
-use Rattle.clauses.proofs.put_literals.Lts as lts
-use Rattle.clauses.proofs.edge_count.Reads as edge-count-reads
-use Rattle.clauses.proofs.put_literal.Reads as put-literal-reads
-use Rattle.plan.proofs.edge_at.Reads as edge-at-reads
 
 abbrev Inv-loop : tie.InvT-loop
 Inv-loop out₀ edges first w count used₀ k₀ out used k = Filling (λ j. literalRow w (edge (edgesOf edges) j) (first + j)) (length (edgesOf edges)) out₀ out used k

@@ -1,14 +1,11 @@
-use Rattle.plan.specs.Tables.{edgesOf}
 use Prim.Native.Nat.{_+_, _-_}
 use native.Mathlib.Omega.{arith}
+use Rattle.plan.specs.Tables.{edgesOf}
 use Rattle.clauses.specs.Rows.{nodeRow, nodesRow}
-use Rattle.clauses.proofs.Fronts.{rest-length}
 use Rattle.clauses.proofs.Filling.{Filling, filling-start, filling-room, filling-turn, filling-end}
+use Rattle.clauses.proofs.Fronts.{rest-length}
 use Rattle.clauses.proofs.put_nodes.Statement.{statement}
 use Rattle.clauses.proofs.put_nodes.Tie as tie
-use Rattle.clauses.proofs.put_nodes.Reads as reads
-use Rattle.clauses.proofs.put_nodes.Lts as lts
-use Rattle.clauses.proofs.put_node.Reads as put-node-reads
 
 abbrev Inv-loop : tie.InvT-loop
 Inv-loop out₀ edges nodes level used₀ w₀ out used w = Filling (λ j. nodeRow (edgesOf edges) (level .edges) (level .nodes + j) (level .next + j) j) (nodes) out₀ out used w

@@ -1,7 +1,7 @@
 use mathlib.Core.Path.{_≡_, refl, sym, ap, _∙_}
 use Prim.Native.Nat.{_-_, _≤_, _<_}
-use native.Mathlib.Omega.{arith}
 use native.Mathlib.Numerals.{add-one}
+use native.Mathlib.Omega.{arith}
 use lib.IntN.{pos}
 use lib.ListN.{length, take, getD, length-set}
 use lib.Seq.{take-suc, take-all}
@@ -10,8 +10,6 @@ use Rattle.clauses.proofs.Fronts.{put-none, put-as, put-store}
 use Rattle.clauses.proofs.Numbers.{wide-fits, wide-kept}
 use Rattle.clauses.proofs.put_own.Statement.{statement}
 use Rattle.clauses.proofs.put_own.Tie as tie
-use Rattle.clauses.proofs.put_own.Reads as reads
-use Rattle.clauses.proofs.put_own.Lts as lts
 
 abbrev Inv-loop : tie.InvT-loop
 Inv-loop out₀ clauses i₀ out i = (i ≤ length clauses) × (length out ≡ length out₀) × Put (take i clauses) out₀ out i

@@ -5,14 +5,8 @@ use Rattle.plan.specs.Meaning.{on, off}
 use Rattle.plan.specs.Tables.{edgesOf}
 use Rattle.clauses.specs.Rows.{literalsRow, reachedRow}
 use Rattle.clauses.proofs.Fronts.{room-first, room-rest, put-then}
-use borrow.Author.Needs.{needs}
 use Rattle.clauses.proofs.put_reached.Statement.{statement}
 use Rattle.clauses.proofs.put_reached.Tie as tie
-use Rattle.clauses.proofs.put_reached.Reads as reads
-use Rattle.clauses.proofs.put_reached.Lts as lts
-use Rattle.clauses.proofs.put_literals.Reads as put-literals-reads
-use Rattle.clauses.proofs.put_two.Reads as put-two-reads
-use Rattle.clauses.proofs.put_zero.Reads as put-zero-reads
 
 put-two-requires : tie.Need-put-two-requires
 unfolding reachedRow
@@ -22,16 +16,16 @@ put-two-requires c κs =
     (room-first two literals (room-first (two ++ literals) (pos 0 ∷ []) (c .before .before .pre .0)), omega arith)
 
 mul-put-literals : tie.Need-mul-put-literals
-mul-put-literals c = search needs
+mul-put-literals c = omega arith
 
 sub-put-literals : tie.Need-sub-put-literals
-sub-put-literals c = search needs
+sub-put-literals c = omega arith
 
 part-put-literals-start : tie.Need-part-put-literals-start
-part-put-literals-start c = search needs
+part-put-literals-start c = omega arith
 
 part-put-literals-end : tie.Need-part-put-literals-end
-part-put-literals-end c = search needs
+part-put-literals-end c = omega arith
 
 put-literals-requires : tie.Need-put-literals-requires
 unfolding reachedRow
@@ -41,19 +35,19 @@ put-literals-requires c κs =
     (room-rest two literals (room-first (two ++ literals) (pos 0 ∷ []) (c .before .before .before .before .before .pre .0)) (c .before .before .put-two .ensures), omega arith)
 
 add-used : tie.Need-add-used
-add-used c = search needs
+add-used c = omega arith
 
 mul-put-zero : tie.Need-mul-put-zero
-mul-put-zero c = search needs
+mul-put-zero c = omega arith
 
 sub-put-zero : tie.Need-sub-put-zero
-sub-put-zero c = search needs
+sub-put-zero c = omega arith
 
 part-put-zero-start : tie.Need-part-put-zero-start
-part-put-zero-start c = search needs
+part-put-zero-start c = omega arith
 
 part-put-zero-end : tie.Need-part-put-zero-end
-part-put-zero-end c = search needs
+part-put-zero-end c = omega arith
 
 put-zero-requires : tie.Need-put-zero-requires
 unfolding reachedRow
@@ -63,10 +57,10 @@ put-zero-requires c κs =
     room-rest (two ++ literals) (pos 0 ∷ []) (c .before .before .before .before .before .before .before .before .pre .0) (put-then (c .before .before .before .before .before .put-two .ensures) (c .before .before .put-literals .ensures))
 
 add-result : tie.Need-add-result
-add-result c = search needs
+add-result c = omega arith
 
 same-length : tie.Need-same-length
-same-length c = search needs
+same-length c = omega arith
 
 returns : tie.Need-returns
 unfolding reachedRow

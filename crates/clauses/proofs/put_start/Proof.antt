@@ -1,13 +1,10 @@
 use Prim.Native.Nat.{_+_, _-_}
 use native.Mathlib.Omega.{arith}
 use Rattle.clauses.specs.Rows.{aloneRow, startRow}
-use Rattle.clauses.proofs.Fronts.{rest-length}
 use Rattle.clauses.proofs.Filling.{Filling, filling-start, filling-room, filling-turn, filling-end}
+use Rattle.clauses.proofs.Fronts.{rest-length}
 use Rattle.clauses.proofs.put_start.Statement.{statement}
 use Rattle.clauses.proofs.put_start.Tie as tie
-use Rattle.clauses.proofs.put_start.Reads as reads
-use Rattle.clauses.proofs.put_start.Lts as lts
-use Rattle.clauses.proofs.put_alone.Reads as put-alone-reads
 
 abbrev Inv-loop : tie.InvT-loop
 Inv-loop out₀ nodes source first used₀ w₀ out used w = Filling (λ j. aloneRow j source (first + j)) (nodes) out₀ out used w

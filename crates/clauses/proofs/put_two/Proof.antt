@@ -1,23 +1,17 @@
-use mathlib.Core.Path.{refl}
 use mathlib.Core.List.{[], _∷_}
-use lib.ListN.{length-set}
 use native.Mathlib.Omega.{arith}
+use lib.ListN.{length-set}
 use Rattle.plan.specs.Meaning.{on, off}
 use Rattle.clauses.proofs.Fronts.{put-front}
 use Rattle.clauses.proofs.Numbers.{kept-on, kept-off}
-use borrow.Author.Needs.{needs}
 use Rattle.clauses.proofs.put_two.Statement.{statement}
 use Rattle.clauses.proofs.put_two.Tie as tie
-use Rattle.clauses.proofs.put_two.Reads as reads
-use Rattle.clauses.proofs.put_two.Lts as lts
-use Rattle.clauses.proofs.off.Reads as off-reads
-use Rattle.clauses.proofs.on.Reads as on-reads
 
 off-requires : tie.Need-off-requires
-off-requires c κs = search needs
+off-requires c κs = omega arith
 
 on-requires : tie.Need-on-requires
-on-requires c κs = search needs
+on-requires c κs = omega arith
 
 slice-set-from-x : tie.Need-slice-set-from-x
 slice-set-from-x c = omega arith
@@ -26,7 +20,7 @@ slice-set-from-y : tie.Need-slice-set-from-y
 slice-set-from-y c = simp length-set (omega arith)
 
 same-length : tie.Need-same-length
-same-length c = search needs
+same-length c = simp length-set
 
 returns : tie.Need-returns
 returns c =

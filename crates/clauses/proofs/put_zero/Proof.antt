@@ -1,17 +1,16 @@
 use mathlib.Core.List.{[], _∷_}
+use native.Mathlib.Omega.{arith}
 use lib.IntN.{pos}
+use lib.ListN.{length-set}
 use Rattle.clauses.proofs.Fronts.{put-front}
-use borrow.Author.Needs.{needs}
 use Rattle.clauses.proofs.put_zero.Statement.{statement}
 use Rattle.clauses.proofs.put_zero.Tie as tie
-use Rattle.clauses.proofs.put_zero.Reads as reads
-use Rattle.clauses.proofs.put_zero.Lts as lts
 
 slice-set-of-out : tie.Need-slice-set-of-out
-slice-set-of-out c = search needs
+slice-set-of-out c = omega arith
 
 same-length : tie.Need-same-length
-same-length c = search needs
+same-length c = simp length-set
 
 returns : tie.Need-returns
 returns c = put-front (pos 0 ∷ []) (c .args .out .now) (c .pre)

@@ -5,17 +5,10 @@ use lib.ListN.{length, take}
 use lib.Seq.{take-all}
 use Rattle.plan.specs.Tables.{edgesOf, atomsOf, atomOf}
 use Rattle.clauses.specs.Writing.{Added}
-use Rattle.clauses.proofs.Tabled.{atom-place}
 use Rattle.clauses.proofs.Stepping.{limits, few, added-next, added-none}
+use Rattle.clauses.proofs.Tabled.{atom-place}
 use Rattle.clauses.proofs.with_blocks.Statement.{statement}
 use Rattle.clauses.proofs.with_blocks.Tie as tie
-use Rattle.clauses.proofs.with_blocks.Reads as reads
-use Rattle.clauses.proofs.with_blocks.Lts as lts
-use Rattle.clauses.proofs.atom_count.Reads as atom-count-reads
-use Rattle.clauses.proofs.edge_count.Reads as edge-count-reads
-use Rattle.clauses.proofs.levels_of.Reads as levels-of-reads
-use Rattle.clauses.proofs.with_block.Reads as with-block-reads
-use Rattle.plan.proofs.atom_at.Reads as atom-at-reads
 
 abbrev Inv-loop : tie.InvT-loop
 Inv-loop edges atoms nodes edge-number atom-number counts₀ j₀ counts j = (j ≤ length (atomsOf atoms)) × Added nodes (length (edgesOf edges)) (take j (atomsOf atoms)) counts₀ counts
