@@ -3,7 +3,7 @@ use plan::Plan;
 use walk::Hops;
 ghost use mathlib.Core.Path.{_≡_};
 ghost use mathlib.Core.Logic.{_↔_};
-ghost use Prim.Native.Nat.{ℕ, _+_, _*_, _-_, _<_, _≤_};
+ghost use Prim.Native.Nat.{_*_, _<_, _≤_};
 ghost use lib.Dec.{T};
 ghost use lib.ListN.{length};
 ghost use Rattle.plan.specs.Meaning.{Full, HasTrue};

@@ -5,6 +5,7 @@ ghost use lib.ListN.{length, getD, replicate};
 ghost use Rattle.plan.specs.Meaning.{add, edge, atom};
 ghost use Rattle.plan.specs.Search.{Assigned};
 ghost use Rattle.plan.specs.Ranged.{LiteralFits};
+ghost use Rattle.plan.specs.Refusals.{numberOf, valueOf};
 ghost use Rattle.plan.specs.Tables.{edgesOf, atomsOf, edgeOf, atomOf, literalValue};
 
 // Why a call is refused, with the value that is returned beside the number.
@@ -204,5 +205,57 @@ pub fn atom_at(atoms: &[u16], k: usize) -> Atom
         to: atoms[at + 2],
         bound: atoms[at + 3],
         variable: atoms[at + 4],
+    }
+}
+
+// Copies one assignment over another of the same length.
+pub fn copy(to: &mut [i8], from: &[i8])
+    requires { ⌜ length (now to) ≡ length (now from) ⌝ }
+    ensures { λ _. ⌜ now (to .exit) ≡ now (from .entry) ⌝ }
+{
+    let mut i = 0;
+    while i < from.len() {
+        to[i] = from[i];
+        i += 1;
+    }
+}
+
+// The document's number of a refusal.
+pub fn number_of(refusal: Refusal) -> usize
+    ensures { λ r. ⌜ r ≡ numberOf refusal ⌝ }
+{
+    match refusal {
+        Refusal::TooLong => 1,
+        Refusal::Cut(_) => 2,
+        Refusal::Misplaced(_) => 3,
+        Refusal::UnknownTag(_) => 4,
+        Refusal::BadLength(_) => 5,
+        Refusal::OutOfRange(_) => 6,
+        Refusal::TooMany(_) => 7,
+        Refusal::Shared(_) => 8,
+        Refusal::WrongLength(_) => 9,
+        Refusal::BadValue(_) => 10,
+        Refusal::NoSuchAtom(_) => 11,
+        Refusal::NoRoom(_) => 12,
+    }
+}
+
+// The value that is returned beside a refusal's number.
+pub fn returned_by(refusal: Refusal) -> usize
+    ensures { λ r. ⌜ r ≡ valueOf refusal ⌝ }
+{
+    match refusal {
+        Refusal::TooLong => 0,
+        Refusal::Cut(offset) => offset,
+        Refusal::Misplaced(offset) => offset,
+        Refusal::UnknownTag(offset) => offset,
+        Refusal::BadLength(offset) => offset,
+        Refusal::OutOfRange(offset) => offset,
+        Refusal::TooMany(offset) => offset,
+        Refusal::Shared(offset) => offset,
+        Refusal::WrongLength(variables) => variables,
+        Refusal::BadValue(place) => place,
+        Refusal::NoSuchAtom(atoms) => atoms,
+        Refusal::NoRoom(needed) => needed,
     }
 }

@@ -237,12 +237,12 @@ fn close_into(plan: Plan, edges: &[u16], atoms: &[u16], clauses: &[i16], given: 
     let variables = given.len();
     let open = Assignment::all_open();
     let mut values = open.values;
-    copy(&mut values[..variables], given);
+    plan::copy(&mut values[..variables], given);
     let clash = closing::close(plan, edges, atoms, clauses, &mut values[..variables]);
     if clash {
         return CloseAnswer::Clash;
     }
-    copy(result, &values[..variables]);
+    plan::copy(result, &values[..variables]);
     CloseAnswer::Closed
 }
 
@@ -298,17 +298,5 @@ fn write_lent(plan: Plan, edges: &[u16], atoms: &[u16], clauses: &[i16], out: &m
     match writing {
         Writing::Written(counts) => WriteAnswer::Written(counts.variables, counts.clauses, counts.numbers),
         Writing::Short(needed) => WriteAnswer::Refused(Refusal::NoRoom(needed)),
-    }
-}
-
-// Copies one assignment over another of the same length.
-fn copy(to: &mut [i8], from: &[i8])
-    requires { ⌜ length (now to) ≡ length (now from) ⌝ }
-    ensures { λ _. ⌜ now (to .exit) ≡ now (from .entry) ⌝ }
-{
-    let mut i = 0;
-    while i < from.len() {
-        to[i] = from[i];
-        i += 1;
     }
 }

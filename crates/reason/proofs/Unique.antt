@@ -1,7 +1,7 @@
 -- The reason fixes the answer and every place of the buffer, so no second answer fits.
 -- Assumes nothing.
 use mathlib.Core.Path.{_≡_, refl, sym, ap, _∙_}
-use mathlib.Core.Logic.{_⊎_, inl, inr, ⊎-elim}
+use mathlib.Core.Logic.{_⊎_, ⊎-elim}
 use mathlib.Core.Bool.{cond}
 use mathlib.Core.List.{List, _++_}
 use Prim.Native.Nat.{ℕ, _≤_, _<_}
@@ -13,7 +13,7 @@ use lib.Dec.{leb}
 use Rattle.plan.specs.Meaning.{Atom, PlanFile}
 use Rattle.plan.specs.Reason.{Reason, holds, fails, neither, ReasonIs}
 use Rattle.plan.proofs.Reason.{reason-unique}
-use Rattle.reason.specs.Answers.{Given, TooShort, AnswerIs}
+use Rattle.reason.specs.Answers.{AnswerIs}
 use Rattle.reason.specs.declared.Answer.{Answer}
 use Rattle.reason.specs.declared.Answer.the-variants.{Holds, Fails, Open, Short}
 

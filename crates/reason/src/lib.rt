@@ -3,11 +3,10 @@ use plan::Edge;
 use plan::State;
 use walk::Hops;
 ghost use mathlib.Core.Path.{_≡_};
-ghost use mathlib.Core.Bool.{true, false, not};
+ghost use mathlib.Core.Bool.{true, not};
 ghost use mathlib.Core.List.{_∷_, map};
-ghost use Prim.Native.Nat.{ℕ, suc, _+_, _*_, _<_, _≤_};
-ghost use lib.IntN.{ℤ};
-ghost use lib.ListN.{length, getD};
+ghost use Prim.Native.Nat.{suc, _+_, _*_, _<_, _≤_};
+ghost use lib.ListN.{length};
 ghost use Rattle.plan.specs.Meaning.{atom, IsTrue, trueIn, under, over};
 ghost use Rattle.plan.specs.Tables.{edgesOf, atomsOf, edgeOf, atomOf};
 ghost use Rattle.walk.specs.Hopping.{graphOf, Inside, Placed, HopTable};
@@ -62,13 +61,13 @@ fn nearer_edge(edges: &[u16], assignment: &[i8], hops: Hops, node: usize, count:
     ensures { λ r. ⌜ FirstNearer (edgesOf (now (edges .entry))) (now (assignment .entry)) hops node count (edgeOf r) ⌝ }
 {
     let total = edges.len() / Edge::NUMBERS;
-    let mut k = 0;
-    while k < total {
-        let edge = plan::edge_at(edges, k);
+    let mut number = 0;
+    while number < total {
+        let edge = plan::edge_at(edges, number);
         if leads_nearer(assignment, edge, hops, node, count) {
             return edge;
         }
-        k += 1;
+        number += 1;
     }
     Edge {
         from: 0,

@@ -130,17 +130,6 @@ pub enum Found {
     Undecided(u32),
 }
 
-fn copy(from: &[i8], to: &mut [i8])
-    requires { ⌜ length (now to) ≡ length (now from) ⌝ }
-    ensures { λ _. ⌜ now (to .exit) ≡ now (from .entry) ⌝ }
-{
-    let mut i = 0;
-    while i < from.len() {
-        to[i] = from[i];
-        i += 1;
-    }
-}
-
 // Writes a plan into the result.
 fn write(plan: Plan, a: Assignment, result: &mut [i8])
     requires { ⌜ plan .variables ≤ 512 ⌝ }
@@ -149,7 +138,7 @@ fn write(plan: Plan, a: Assignment, result: &mut [i8])
 {
     let values = a.values;
     let n = plan::wide(plan.variables);
-    copy(&values[..n], result);
+    plan::copy(result, &values[..n]);
 }
 
 // Searches for the first plan from all open, with at most `budget` branchings. The result is written for a plan only.

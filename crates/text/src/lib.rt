@@ -4,7 +4,6 @@
 // buffer is written to standard output, and filling goes on at its front; `flush` writes the rest.
 ghost use mathlib.Core.Path.{_≡_};
 ghost use lib.IntN.{natAbs};
-ghost use Rattle.plan.specs.Refusals.{numberOf, valueOf};
 use plan::Plan;
 use plan::Refusal;
 
@@ -80,52 +79,12 @@ pub fn field(out: &mut [u8; SIZE], at: usize, value: u64) -> usize {
 // A refusal's line without its end: `name`, the number and the value.
 pub fn refusal(out: &mut [u8; SIZE], at: usize, name: &[u8], why: Refusal) -> usize {
     let mut next = word(out, at, name);
-    next = field(out, next, number_of(why) as u64);
-    field(out, next, value_of(why) as u64)
+    next = field(out, next, plan::number_of(why) as u64);
+    field(out, next, plan::returned_by(why) as u64)
 }
 
 // The line `r NUMBER VALUE`, at the front of the buffer.
 pub fn refusal_line(out: &mut [u8; SIZE], why: Refusal) -> usize {
     let next = refusal(out, 0, b"r", why);
     byte(out, next, b'\n')
-}
-
-// The document's number of a refusal.
-pub fn number_of(refusal: Refusal) -> usize
-    ensures { λ r. ⌜ r ≡ numberOf refusal ⌝ }
-{
-    match refusal {
-        Refusal::TooLong => 1,
-        Refusal::Cut(_) => 2,
-        Refusal::Misplaced(_) => 3,
-        Refusal::UnknownTag(_) => 4,
-        Refusal::BadLength(_) => 5,
-        Refusal::OutOfRange(_) => 6,
-        Refusal::TooMany(_) => 7,
-        Refusal::Shared(_) => 8,
-        Refusal::WrongLength(_) => 9,
-        Refusal::BadValue(_) => 10,
-        Refusal::NoSuchAtom(_) => 11,
-        Refusal::NoRoom(_) => 12,
-    }
-}
-
-// The value that is returned beside a refusal's number.
-pub fn value_of(refusal: Refusal) -> usize
-    ensures { λ r. ⌜ r ≡ valueOf refusal ⌝ }
-{
-    match refusal {
-        Refusal::TooLong => 0,
-        Refusal::Cut(offset) => offset,
-        Refusal::Misplaced(offset) => offset,
-        Refusal::UnknownTag(offset) => offset,
-        Refusal::BadLength(offset) => offset,
-        Refusal::OutOfRange(offset) => offset,
-        Refusal::TooMany(offset) => offset,
-        Refusal::Shared(offset) => offset,
-        Refusal::WrongLength(variables) => variables,
-        Refusal::BadValue(place) => place,
-        Refusal::NoSuchAtom(atoms) => atoms,
-        Refusal::NoRoom(needed) => needed,
-    }
 }

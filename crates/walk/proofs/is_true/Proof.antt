@@ -3,10 +3,6 @@ use Rattle.walk.proofs.Truths.{so, not-so, true-none, true-reaches, tru
 use borrow.Author.Needs.{needs}
 use Rattle.walk.proofs.is_true.Statement.{statement}
 use Rattle.walk.proofs.is_true.Tie as tie
-use Rattle.walk.proofs.is_true.Reads as reads
-use Rattle.walk.proofs.is_true.Lts as lts
-use Rattle.plan.proofs.wide.Reads as wide-reads
-use Rattle.walk.proofs.has.Reads as has-reads
 
 wide-requires : tie.Need-wide-requires
 wide-requires c κs = search needs

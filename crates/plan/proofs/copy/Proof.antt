@@ -10,10 +10,10 @@ use lib.Seq.{take-suc, take-suc-set, take-all}
 use mir.Syntax.{w8}
 use mir.Val.{SFits, ofZ, toZ}
 use mir.Facts.{toZ-ofZ}
-use Rattle.planner.proofs.copy.Statement.{statement}
-use Rattle.planner.proofs.copy.Tie as tie
-use Rattle.planner.proofs.copy.Reads as reads
-use Rattle.planner.proofs.copy.Lts as lts
+use Rattle.plan.proofs.copy.Statement.{statement}
+use Rattle.plan.proofs.copy.Tie as tie
+use Rattle.plan.proofs.copy.Reads as reads
+use Rattle.plan.proofs.copy.Lts as lts
 
 abbrev Inv-loop : tie.InvT-loop
 Inv-loop to₀ from i₀ to i = (i ≤ length from) × (take i to ≡ take i from) × (length to ≡ length to₀)
