@@ -65,7 +65,7 @@ module _ (p : Plan) (es bs : List ℕ) (cs : List ℤ) (lent : Lent p es bs cs) 
   lent-table = record {
     ended = subst (λ l. getD l (length l - 1) (pos 0) ≡ pos 0) (lent .ended) (flat-ended (clausesOf cs));
     fits = λ k h n. subst (λ l. k < length l → getD l k (pos 0) ≢ pos 0 → LiteralFits (p .variables) (getD l k (pos 0))) (lent .ended)
-      (flat-each (LiteralFits (p .variables)) (clausesOf cs) (lent .ranged .literal) k) h n;
+        (flat-each (LiteralFits (p .variables)) (clausesOf cs) (lent .ranged .literal) k) h n;
   }
 
   pub lent-inside : Inside (edgesOf es)

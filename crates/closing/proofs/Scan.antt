@@ -185,10 +185,12 @@ module _ (cs a : List ℤ) (at first : ℕ) (s : Stop cs a at (pos 0) first) whe
           let v = n .after in
           let u : End cs first e = record { after = omega arith; inside = n .inside; before = λ k p q. go k p q (le-or-lt second k); here = n .here } in
           let w = ends-from e u in
-          let h : second < e = later (le-or-lt e second) in
-          (part cs at e, part-next cs at e w,
-          quiet-two (trueIn a) (part cs at e) (getD cs first (pos 0)) (getD cs second (pos 0)) (part-in cs at e w first (s .after) (beyond e u))
-          (part-in cs at e w second (omega arith) h) first-left (λ t. ⊎-elim (λ o. z o) (λ o. o .1 t) (r .here)) (λ t. ⊎-elim (λ o. z o) (λ o. o .0 t) (r .here)))
+          let h : second < e = later (le-or-lt e second) in (
+            part cs at e,
+            part-next cs at e w,
+            quiet-two (trueIn a) (part cs at e) (getD cs first (pos 0)) (getD cs second (pos 0)) (part-in cs at e w first (s .after) (beyond e u))
+                (part-in cs at e w second (omega arith) h) first-left (λ t. ⊎-elim (λ o. z o) (λ o. o .1 t) (r .here)) (λ t. ⊎-elim (λ o. z o) (λ o. o .0 t) (r .here)),
+          )
         where
           go : (k : ℕ) → first ≤ k → k < e → (second ≤ k) ⊎ (k < second) → getD cs k (pos 0) ≢ pos 0
           go k p q (inl h) = n .before k h q
@@ -201,13 +203,16 @@ module _ (cs a : List ℤ) (at first : ℕ) (s : Stop cs a at (pos 0) first) whe
       pub at-end : getD cs second (pos 0) ≡ pos 0 → (T (trueIn a (getD cs first (pos 0))) → ⊥) → (C : List ℤ) × Next cs at C (second + 1) × Unit (trueIn a) C (getD cs first (pos 0))
       at-end z f =
           let y = r .after in
-          let w = ends-from second (record { after = omega arith; inside = r .inside; before = between; here = z }) in
-          (part cs at second, part-next cs at second w, record {
-            among = part-in cs at second w first (s .after) (omega arith);
-            others = λ m i n. let q = part-out cs at second w m i in subst (λ x. T (trueIn a (negℤ x))) (sym (q .3)) (go (q .0) (q .1) (q .2) (λ o. n (q .3 ∙ o)) (le-or-lt first (q .0)));
-            not-true = f;
-            not-false = first-left;
-          })
+          let w = ends-from second (record { after = omega arith; inside = r .inside; before = between; here = z }) in (
+            part cs at second,
+            part-next cs at second w,
+            record {
+              among = part-in cs at second w first (s .after) (omega arith);
+              others = λ m i n. let q = part-out cs at second w m i in subst (λ x. T (trueIn a (negℤ x))) (sym (q .3)) (go (q .0) (q .1) (q .2) (λ o. n (q .3 ∙ o)) (le-or-lt first (q .0)));
+              not-true = f;
+              not-false = first-left;
+            },
+          )
         where
           go : (k : ℕ) → at ≤ k → k < second → getD cs k (pos 0) ≢ getD cs first (pos 0) → (first ≤ k) ⊎ (k < first) → T (trueIn a (negℤ (getD cs k (pos 0))))
           go k p q n (inr h) = all-before k p h

@@ -135,7 +135,7 @@ module _ (bs : List ℕ) (count : ℕ) (over : Bool) (h : Hops) (v w : List ℤ)
         same = gets-same φ (f .ranged) over A among v₀ v w s sub (q .0) r (q .1);
         tells = gets-tells φ (f .ranged) over A among v₀ v w s sub (q .0) r (q .1);
         said = λ n j p o x. subst (λ z. T (trueIn w (givenBy over z))) (sym (same-atom j p o))
-          (gets-has (length v) (givenBy over A) v w (given-fits (length v) over A (ready .fits at inside)) refl r n (q .1));
+            (gets-has (length v) (givenBy over A) v w (given-fits (length v) over A (ready .fits at inside)) refl r n (q .1));
       }
 
   pub told-looked : (source : ℕ) → atom (atomsOf bs) at .from ≡ source → Looked bs over (ByHops over source h) v w at (at + 1) r

@@ -33,11 +33,7 @@ pub struct Look {
 fn told(changed: bool) -> Step
     ensures { λ r. ⌜ r ≡ stepOf changed ⌝ }
 {
-    if changed {
-        Step::Set
-    } else {
-        Step::Still
-    }
+    if changed { Step::Set } else { Step::Still }
 }
 
 // Whether the look at a clause stops at this number: at its 0, and at a literal that is neither false nor the one passed over.
@@ -224,7 +220,15 @@ fn next_to_say(atoms: &[u16], count: usize, k: usize, over: bool, values: &[i8])
 }
 
 // Looks at the atoms from `k` on, as long as they have the source from which these are the hops.
-fn look_along(atoms: &[u16], count: usize, k: usize, source: u16, hops: Hops, over: bool, values: &mut [i8]) -> Look
+fn look_along(
+    atoms: &[u16],
+    count: usize,
+    k: usize,
+    source: u16,
+    hops: Hops,
+    over: bool,
+    values: &mut [i8],
+) -> Look
     requires { ⌜ AtomsReady (now atoms) count (now values) ⌝ }
     requires { ⌜ k < count ⌝ }
     requires { ⌜ atom (atomsOf (now atoms)) k .from ≡ source ⌝ }
@@ -263,7 +267,14 @@ fn look_along(atoms: &[u16], count: usize, k: usize, source: u16, hops: Hops, ov
 }
 
 // Goes on to the next atom from `k` on that has something to say, and looks at those of its source by one walk.
-fn look_on(atoms: &[u16], count: usize, k: usize, sets: &[u64; 64], over: bool, values: &mut [i8]) -> Look
+fn look_on(
+    atoms: &[u16],
+    count: usize,
+    k: usize,
+    sets: &[u64; 64],
+    over: bool,
+    values: &mut [i8],
+) -> Look
     requires { ⌜ AtomsReady (now atoms) count (now values) ⌝ }
     requires { ⌜ k < count ⌝ }
     ensures { λ r. ⌜ (k < r .next) × (r .next ≤ count) ⌝ }
@@ -283,7 +294,14 @@ fn look_on(atoms: &[u16], count: usize, k: usize, sets: &[u64; 64], over: bool, 
 }
 
 // Looks at the atoms from `k` on in the graph of these neighbours.
-fn sweep(atoms: &[u16], count: usize, k: usize, sets: &[u64; 64], over: bool, values: &mut [i8]) -> Step
+fn sweep(
+    atoms: &[u16],
+    count: usize,
+    k: usize,
+    sets: &[u64; 64],
+    over: bool,
+    values: &mut [i8],
+) -> Step
     requires { ⌜ AtomsReady (now atoms) count (now values) ⌝ }
     requires { ⌜ k ≤ count ⌝ }
     ensures { λ r. ⌜ Looked (now (atoms .entry)) over (BySets over (now (sets .entry))) (now (values .entry)) (now (values .exit)) k count r ⌝ }

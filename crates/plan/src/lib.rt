@@ -159,11 +159,7 @@ pub fn value_of(values: &[i8], literal: i16) -> i8
 {
     let at = variable_of(literal) - 1;
     let value = values[at];
-    if literal > 0 {
-        value
-    } else {
-        -value
-    }
+    if literal > 0 { value } else { -value }
 }
 
 // Adds one literal to a lent assignment.

@@ -115,7 +115,15 @@ pub fn reason(file: &[u8], assignment: &[i8], atom: usize, out: &mut [i16]) -> R
             let e = plan.edges * Edge::NUMBERS;
             let b = plan.atoms * Atom::NUMBERS;
             let c = plan.literals + plan.clauses;
-            reason_lent(plan, &edges[..e], &atoms[..b], &clauses[..c], assignment, atom, out)
+            reason_lent(
+                plan,
+                &edges[..e],
+                &atoms[..b],
+                &clauses[..c],
+                assignment,
+                atom,
+                out,
+            )
         }
     }
 }
@@ -135,7 +143,14 @@ pub fn search(file: &[u8], budget: u32, result: &mut [i8]) -> SearchAnswer
             let e = plan.edges * Edge::NUMBERS;
             let b = plan.atoms * Atom::NUMBERS;
             let c = plan.literals + plan.clauses;
-            search_lent(plan, &edges[..e], &atoms[..b], &clauses[..c], budget, result)
+            search_lent(
+                plan,
+                &edges[..e],
+                &atoms[..b],
+                &clauses[..c],
+                budget,
+                result,
+            )
         }
     }
 }
@@ -189,7 +204,13 @@ fn first_not(values: &[i8], partial: bool) -> usize
     i
 }
 
-fn judge_lent(plan: Plan, edges: &[u16], atoms: &[u16], clauses: &[i16], assignment: &[i8]) -> JudgeAnswer
+fn judge_lent(
+    plan: Plan,
+    edges: &[u16],
+    atoms: &[u16],
+    clauses: &[i16],
+    assignment: &[i8],
+) -> JudgeAnswer
     requires { ⌜ Lent plan (now edges) (now atoms) (now clauses) ⌝ }
     ensures { λ r. ⌜ JudgeCase (judgeChecks (now (assignment .entry)) (planOf plan (now (edges .entry)) (now (atoms .entry)) (now (clauses .entry)))) (now (assignment .entry)) r ⌝ }
 {
@@ -209,7 +230,14 @@ fn judge_lent(plan: Plan, edges: &[u16], atoms: &[u16], clauses: &[i16], assignm
     }
 }
 
-fn close_lent(plan: Plan, edges: &[u16], atoms: &[u16], clauses: &[i16], given: &[i8], result: &mut [i8]) -> CloseAnswer
+fn close_lent(
+    plan: Plan,
+    edges: &[u16],
+    atoms: &[u16],
+    clauses: &[i16],
+    given: &[i8],
+    result: &mut [i8],
+) -> CloseAnswer
     requires { ⌜ Lent plan (now edges) (now atoms) (now clauses) ⌝ }
     ensures { λ r. ⌜ CloseCase (closeChecks (now (given .entry)) (now (result .entry)) (planOf plan (now (edges .entry)) (now (atoms .entry)) (now (clauses .entry)))) (now (given .entry)) (now (result .entry)) (now (result .exit)) r ⌝ }
 {
@@ -228,7 +256,14 @@ fn close_lent(plan: Plan, edges: &[u16], atoms: &[u16], clauses: &[i16], given: 
 }
 
 // Closes in a local copy, since a clash leaves the result as it was.
-fn close_into(plan: Plan, edges: &[u16], atoms: &[u16], clauses: &[i16], given: &[i8], result: &mut [i8]) -> CloseAnswer
+fn close_into(
+    plan: Plan,
+    edges: &[u16],
+    atoms: &[u16],
+    clauses: &[i16],
+    given: &[i8],
+    result: &mut [i8],
+) -> CloseAnswer
     requires { ⌜ Lent plan (now edges) (now atoms) (now clauses) ⌝ }
     requires { ⌜ Assigned (plan .variables) (now given) ⌝ }
     requires { ⌜ length (now result) ≡ plan .variables ⌝ }
@@ -246,7 +281,15 @@ fn close_into(plan: Plan, edges: &[u16], atoms: &[u16], clauses: &[i16], given: 
     CloseAnswer::Closed
 }
 
-fn reason_lent(plan: Plan, edges: &[u16], atoms: &[u16], clauses: &[i16], assignment: &[i8], atom: usize, out: &mut [i16]) -> ReasonAnswer
+fn reason_lent(
+    plan: Plan,
+    edges: &[u16],
+    atoms: &[u16],
+    clauses: &[i16],
+    assignment: &[i8],
+    atom: usize,
+    out: &mut [i16],
+) -> ReasonAnswer
     requires { ⌜ Lent plan (now edges) (now atoms) (now clauses) ⌝ }
     ensures { λ r. ⌜ ReasonCase (reasonChecks (now (assignment .entry)) atom (planOf plan (now (edges .entry)) (now (atoms .entry)) (now (clauses .entry)))) (now (assignment .entry)) atom (now (out .entry)) (now (out .exit)) r ⌝ }
 {
@@ -274,7 +317,14 @@ fn reason_lent(plan: Plan, edges: &[u16], atoms: &[u16], clauses: &[i16], assign
     }
 }
 
-fn search_lent(plan: Plan, edges: &[u16], atoms: &[u16], clauses: &[i16], budget: u32, result: &mut [i8]) -> SearchAnswer
+fn search_lent(
+    plan: Plan,
+    edges: &[u16],
+    atoms: &[u16],
+    clauses: &[i16],
+    budget: u32,
+    result: &mut [i8],
+) -> SearchAnswer
     requires { ⌜ Lent plan (now edges) (now atoms) (now clauses) ⌝ }
     ensures { λ r. ⌜ SearchCase (searchChecks (now (result .entry)) (planOf plan (now (edges .entry)) (now (atoms .entry)) (now (clauses .entry)))) budget (now (result .entry)) (now (result .exit)) r ⌝ }
 {
@@ -290,13 +340,23 @@ fn search_lent(plan: Plan, edges: &[u16], atoms: &[u16], clauses: &[i16], budget
     }
 }
 
-fn write_lent(plan: Plan, edges: &[u16], atoms: &[u16], clauses: &[i16], out: &mut [i32]) -> WriteAnswer
+fn write_lent(
+    plan: Plan,
+    edges: &[u16],
+    atoms: &[u16],
+    clauses: &[i16],
+    out: &mut [i32],
+) -> WriteAnswer
     requires { ⌜ Lent plan (now edges) (now atoms) (now clauses) ⌝ }
     ensures { λ r. ⌜ WriteCase (writeChecks (now (out .entry)) (planOf plan (now (edges .entry)) (now (atoms .entry)) (now (clauses .entry)))) (now (out .entry)) (now (out .exit)) r ⌝ }
 {
     let writing = clauses::write_clauses(plan, edges, atoms, clauses, out);
     match writing {
-        Writing::Written(counts) => WriteAnswer::Written(counts.variables, counts.clauses, counts.numbers),
+        Writing::Written(counts) => WriteAnswer::Written(
+            counts.variables,
+            counts.clauses,
+            counts.numbers,
+        ),
         Writing::Short(needed) => WriteAnswer::Refused(Refusal::NoRoom(needed)),
     }
 }

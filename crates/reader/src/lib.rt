@@ -1,6 +1,6 @@
-use plan::Plan;
 use plan::Atom;
 use plan::Clause;
+use plan::Plan;
 use plan::Refusal;
 use plan::wide;
 ghost use mathlib.Core.Path.{_≡_};
@@ -92,7 +92,15 @@ fn kind_ok(kind: u16, bound: u16) -> bool
     false
 }
 
-fn atom_ok(nodes: u16, variables: u16, kind: u16, from: u16, to: u16, bound: u16, variable: u16) -> bool
+fn atom_ok(
+    nodes: u16,
+    variables: u16,
+    kind: u16,
+    from: u16,
+    to: u16,
+    bound: u16,
+    variable: u16,
+) -> bool
     ensures { λ r. ⌜ r ≡ (kindOk kind bound && endsOk nodes variables from to variable) ⌝ }
 {
     if !kind_ok(kind, bound) {
@@ -193,7 +201,14 @@ fn put_atom(t: &mut [u16], k: usize, kind: u16, from: u16, to: u16, bound: u16, 
     t[k + 4] = variable;
 }
 
-fn take_edge(file: &[u8], at: usize, len: usize, counts: Plan, edges: &mut [u16], atoms: &[u16]) -> Move
+fn take_edge(
+    file: &[u8],
+    at: usize,
+    len: usize,
+    counts: Plan,
+    edges: &mut [u16],
+    atoms: &[u16],
+) -> Move
     requires { ⌜ (at + 3 + len ≤ length (now file)) × (len ≡ lenAt (now file) at) × Room counts × (length (now edges) ≡ 768) × (length (now atoms) ≡ 320) ⌝ }
     ensures { λ r. ⌜ EdgeRead (now (file .entry)) at counts (now (edges .entry)) (now (atoms .entry)) r (now (edges .exit)) ⌝ }
 {
@@ -231,7 +246,14 @@ fn take_edge(file: &[u8], at: usize, len: usize, counts: Plan, edges: &mut [u16]
     )
 }
 
-fn take_atom(file: &[u8], at: usize, len: usize, counts: Plan, edges: &[u16], atoms: &mut [u16]) -> Move
+fn take_atom(
+    file: &[u8],
+    at: usize,
+    len: usize,
+    counts: Plan,
+    edges: &[u16],
+    atoms: &mut [u16],
+) -> Move
     requires { ⌜ (at + 3 + len ≤ length (now file)) × (len ≡ lenAt (now file) at) × Room counts × (length (now edges) ≡ 768) × (length (now atoms) ≡ 320) ⌝ }
     ensures { λ r. ⌜ AtomRead (now (file .entry)) at counts (now (edges .entry)) (now (atoms .entry)) r (now (atoms .exit)) ⌝ }
 {
@@ -427,7 +449,12 @@ fn read_records(
 }
 
 // Reads a plan file into the tables.
-pub fn read_into(file: &[u8], edges: &mut [u16], atoms: &mut [u16], clauses: &mut [i16]) -> ReadAnswer
+pub fn read_into(
+    file: &[u8],
+    edges: &mut [u16],
+    atoms: &mut [u16],
+    clauses: &mut [i16],
+) -> ReadAnswer
     requires { ⌜ (length (now edges) ≡ 768) × (length (now atoms) ≡ 320) × (length (now clauses) ≡ 5120) ⌝ }
     ensures { λ r. ⌜ Answers (readPlan (now (file .entry))) r (now (edges .exit)) (now (atoms .exit)) (now (clauses .exit)) ⌝ }
 {

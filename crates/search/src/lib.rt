@@ -72,7 +72,16 @@ fn open_place(plan: Plan, a: Assignment, from: usize) -> usize
 }
 
 // Closes, and finds a clash, a plan, or the lowest open variable to branch on. The places below `from` are assigned.
-pub fn settle(plan: Plan, edges: &[u16], atoms: &[u16], clauses: &[i16], a: Assignment, from: usize, budget: u32, count: u32) -> Outcome
+pub fn settle(
+    plan: Plan,
+    edges: &[u16],
+    atoms: &[u16],
+    clauses: &[i16],
+    a: Assignment,
+    from: usize,
+    budget: u32,
+    count: u32,
+) -> Outcome
     requires { ⌜ Begins plan (now edges) (now atoms) (now clauses) (take (plan .variables) (a .values)) budget count ⌝ }
     requires { ⌜ from ≤ plan .variables ⌝ }
     requires { ⌜ Filled (take (plan .variables) (a .values)) from ⌝ }
@@ -99,7 +108,16 @@ pub fn settle(plan: Plan, edges: &[u16], atoms: &[u16], clauses: &[i16], a: Assi
 }
 
 // Tries the variable at `place` off, and on only if off held no plan.
-pub fn branch(plan: Plan, edges: &[u16], atoms: &[u16], clauses: &[i16], a: Assignment, place: usize, budget: u32, count: u32) -> Outcome
+pub fn branch(
+    plan: Plan,
+    edges: &[u16],
+    atoms: &[u16],
+    clauses: &[i16],
+    a: Assignment,
+    place: usize,
+    budget: u32,
+    count: u32,
+) -> Outcome
     requires { ⌜ Begins plan (now edges) (now atoms) (now clauses) (take (plan .variables) (a .values)) budget count ⌝ }
     requires { ⌜ Lowest (take (plan .variables) (a .values)) place ⌝ }
     ensures { λ r. ⌜ ((b : List ℤ) → Closes (planOf plan (now (edges .entry)) (now (atoms .entry)) (now (clauses .entry))) b (take (plan .variables) (a .values)) → Reported (planOf plan (now (edges .entry)) (now (atoms .entry)) (now (clauses .entry))) b budget count (r .verdict) (take (plan .variables) (r .plan .values)) (r .count)) ⌝ }
@@ -112,12 +130,30 @@ pub fn branch(plan: Plan, edges: &[u16], atoms: &[u16], clauses: &[i16], a: Assi
         };
     }
     let literal = (place + 1) as i16;
-    let first = settle(plan, edges, atoms, clauses, a.with(-literal), place + 1, budget, count + 1);
+    let first = settle(
+        plan,
+        edges,
+        atoms,
+        clauses,
+        a.with(-literal),
+        place + 1,
+        budget,
+        count + 1,
+    );
     let verdict = first.verdict;
     match verdict {
         Verdict::Impossible => {
             let so_far = first.count;
-            settle(plan, edges, atoms, clauses, a.with(literal), place + 1, budget, so_far)
+            settle(
+                plan,
+                edges,
+                atoms,
+                clauses,
+                a.with(literal),
+                place + 1,
+                budget,
+                so_far,
+            )
         }
         _ => first,
     }
@@ -142,12 +178,28 @@ fn write(plan: Plan, a: Assignment, result: &mut [i8])
 }
 
 // Searches for the first plan from all open, with at most `budget` branchings. The result is written for a plan only.
-pub fn search(plan: Plan, edges: &[u16], atoms: &[u16], clauses: &[i16], budget: u32, result: &mut [i8]) -> Found
+pub fn search(
+    plan: Plan,
+    edges: &[u16],
+    atoms: &[u16],
+    clauses: &[i16],
+    budget: u32,
+    result: &mut [i8],
+) -> Found
     requires { ⌜ Lent plan (now edges) (now atoms) (now clauses) ⌝ }
     requires { ⌜ length (now result) ≡ plan .variables ⌝ }
     ensures { λ r. ⌜ Answers (planOf plan (now (edges .entry)) (now (atoms .entry)) (now (clauses .entry))) budget (now (result .entry)) (now (result .exit)) r ⌝ }
 {
-    let outcome = settle(plan, edges, atoms, clauses, Assignment::all_open(), 0, budget, 0);
+    let outcome = settle(
+        plan,
+        edges,
+        atoms,
+        clauses,
+        Assignment::all_open(),
+        0,
+        budget,
+        0,
+    );
     let verdict = outcome.verdict;
     let count = outcome.count;
     match verdict {

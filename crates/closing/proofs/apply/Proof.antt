@@ -94,7 +94,7 @@ module _ (c : tie.After-value-of) where
   second-stop r p = subst (λ x. Stop (table (has .before)) (values (has .before)) (first (has .before) + 1) x r) (number (has .before)) p
 
 returns : tie.Need-returns
-returns c = 
+returns c =
     let d = c .before in
     let q = at-zero (table d) (values d) (begin d .args .at) (first d) (stop d) (bits-eq w16 _ 0 (search needs) (c .if1 .taken)) in
     record { clause = q .0; is = q .1; does = (refl, q .2) }
@@ -112,7 +112,7 @@ same-length-2 : tie.Need-same-length-2
 same-length-2 c = search needs
 
 returns-2 : tie.Need-returns-2
-returns-2 c = 
+returns-2 c =
     let v = c .before .before in
     let d = has v .before in
     let q = at-true (table d) (values d) (begin d .args .at) (first d) (stop d) (some (has v)) (is-true v (c .before .if2 .taken)) (c .end-of .result) (c .end-of .ensures) in
@@ -140,16 +140,16 @@ same-length-3 : tie.Need-same-length-3
 same-length-3 c = search needs
 
 returns-3 : tie.Need-returns-3
-returns-3 c = 
+returns-3 c =
     let v = c .before .before .before .before .before .before in
     let d = has v .before in
     let r = second-stop v (c .before .before .before .stop-of2 .result) (c .before .before .before .stop-of2 .ensures) in
     let q = at-second (table d) (values d) (begin d .args .at) (first d) (stop d) (some (has v)) (c .before .before .before .stop-of2 .result) r
-            (λ e. c .before .if3 .taken (ap (ofZ w16) e)) (c .end-of2 .result) (c .end-of2 .ensures) in
+    (λ e. c .before .if3 .taken (ap (ofZ w16) e)) (c .end-of2 .result) (c .end-of2 .ensures) in
     record { clause = q .0; is = q .1; does = (refl, q .2) }
 
 put-requires : tie.Need-put-requires
-put-requires c κs = 
+put-requires c κs =
     let h = has (c .before .before .before .before .before .before) in
     rw (number (h .before)) (begin (h .before) .pre .0 .small, fits h)
 
@@ -160,7 +160,7 @@ same-length-4 : tie.Need-same-length-4
 same-length-4 c = search needs
 
 returns-4 : tie.Need-returns-4
-returns-4 c = 
+returns-4 c =
     let v = c .before .before .before .before .before .before .before .before in
     let d = has v .before in
     let r = second-stop v (c .before .before .before .before .before .stop-of2 .result) (c .before .before .before .before .before .stop-of2 .ensures) in

@@ -58,7 +58,7 @@ loop-holds : tie.Need-loop-holds Inv-loop μ-loop
 loop-holds c = let d = c .before .before in first-round (whole d) (given d) (passed d) (onward d) (ends d false (c .if1 .left))
 
 round-requires : tie.Need-round-requires Inv-loop μ-loop
-round-requires c κs = 
+round-requires c κs =
     let d = c .before .before .before .before in
     let g = c .before .loop .inv in
     (begin d .pre .0, (g .onward .shape, g .quiet))
@@ -78,7 +78,7 @@ enum-told : tie.Need-enum-told Inv-loop μ-loop
 enum-told c = search needs
 
 returns-2 : tie.Need-returns-2 Inv-loop μ-loop
-returns-2 c = 
+returns-2 c =
     let d = c .before .before .before in
     let f = first d in
     (d .round .ensures .onward .shape, onward f .back nothing (go-clash (whole f) (passed f) (turn d .loop .values) (after d) (turn d .loop .inv) (d .round .result) (c .enum-told .given .1) (d .round .ensures)))
@@ -87,7 +87,7 @@ enum-told-2 : tie.Need-enum-told-2 Inv-loop μ-loop
 enum-told-2 c = search needs
 
 returns-3 : tie.Need-returns-3 Inv-loop μ-loop
-returns-3 c = 
+returns-3 c =
     let d = c .before .before .before in
     let f = first d in
     (d .round .ensures .onward .shape, onward f .back (found (after d)) (go-still (whole f) (passed f) (turn d .loop .values) (after d) (turn d .loop .inv) (d .round .result) (c .enum-told2 .given .1) (d .round .ensures) (begin f .pre .0 .ranged)))
@@ -96,13 +96,13 @@ enum-told-3 : tie.Need-enum-told-3 Inv-loop μ-loop
 enum-told-3 c = search needs
 
 loop-less : tie.Need-loop-less Inv-loop μ-loop
-loop-less c = 
+loop-less c =
     let d = c .before .before .before in
     let f = first d in
     go-fewer (whole f) (passed f) (turn d .loop .values) (after d) (turn d .loop .inv) (d .round .result) (c .enum-told3 .given .1) (d .round .ensures)
 
 loop-again : tie.Need-loop-again Inv-loop μ-loop
-loop-again c = 
+loop-again c =
     let d = c .before .before .before in
     let f = first d in
     go-on (whole f) (passed f) (turn d .loop .values) (after d) (turn d .loop .inv) (d .round .result) (c .enum-told3 .given .1) (d .round .ensures)

@@ -41,12 +41,13 @@ same-length-3 : tie.Need-same-length-3
 same-length-3 c = search needs
 
 returns-3 : tie.Need-returns-3
-returns-3 c = 
+returns-3 c =
     let d = c .before .before .before .before .before in
-    let b = begin d in
-    (c .before .put .ensures ∙ ap (add (b .args .values .now)) (toZ-ofZ (b .fits .literal)),
-    (λ t. c .before .before .before .before .if1 .left (true-bits (b .args .values .now) (b .args .literal) _ (b .pre .0) (b .pre .1 .1) (value-is d) t)),
-    (λ t. c .before .before .before .if2 .left (false-bits (b .args .values .now) (b .args .literal) _ (b .pre .0) (b .pre .1 .1) (value-is d) t)))
+    let b = begin d in (
+      c .before .put .ensures ∙ ap (add (b .args .values .now)) (toZ-ofZ (b .fits .literal)),
+      (λ t. c .before .before .before .before .if1 .left (true-bits (b .args .values .now) (b .args .literal) _ (b .pre .0) (b .pre .1 .1) (value-is d) t)),
+      (λ t. c .before .before .before .if2 .left (false-bits (b .args .values .now) (b .args .literal) _ (b .pre .0) (b .pre .1 .1) (value-is d) t)),
+    )
 
 pub give-spec : {M : Type 1} → statement M
 give-spec =

@@ -28,7 +28,7 @@ abbrev μ-loop : tie.MeasureT-loop
 μ-loop atoms count k source hops over values₀ changed₀ at₀ values changed at = count - at
 
 loop-holds : tie.Need-loop-holds Inv-loop μ-loop
-loop-holds c = 
+loop-holds c =
     let d = c .before in
     let h = d .pre .1 .0 in
     (omega arith, omega arith, looked-start (d .args .atoms .now) (d .args .count) (d .args .over) _ (d .args .values .now) (d .args .k) (d .pre .0 .shape) (omega arith))
@@ -76,14 +76,15 @@ same-length : tie.Need-same-length Inv-loop μ-loop
 same-length c = turn (c .before .before .before) .loop .inv .2 .shape .long
 
 returns : tie.Need-returns Inv-loop μ-loop
-returns c = 
+returns c =
     let d = c .before .before .before in
     let b = begin d in
     let i = turn d .loop .inv in
     let first : turn d .loop .at ≡ b .args .k → ⊥ =
-          λ e. c .before .if1 .taken (ap (λ (A : Atom). A .from) (d .atom-at .ensures) ∙ ap (λ n. atom (atomsOf (table d)) n .from) e ∙ b .pre .1 .1) in
-    ((omega (arith, first, i .0), i .1),
-    subst (λ r. Looked (table d) (b .args .over) (ByHops (b .args .over) (b .args .source) (b .args .hops)) (b .args .values .now) (turn d .loop .values) (b .args .k) (turn d .loop .at) r) (sym (c .told .ensures)) (i .2))
+    λ e. c .before .if1 .taken (ap (λ (A : Atom). A .from) (d .atom-at .ensures) ∙ ap (λ n. atom (atomsOf (table d)) n .from) e ∙ b .pre .1 .1) in (
+      (omega (arith, first, i .0), i .1),
+      subst (λ r. Looked (table d) (b .args .over) (ByHops (b .args .over) (b .args .source) (b .args .hops)) (b .args .values .now) (turn d .loop .values) (b .args .k) (turn d .loop .at) r) (sym (c .told .ensures)) (i .2),
+    )
 
 look-at-requires : tie.Need-look-at-requires Inv-loop μ-loop
 look-at-requires c κs = let d = c .before .before .before in (ready d .shape, (ready d .small, atom-fits d))
@@ -95,15 +96,16 @@ add-t17 : tie.Need-add-t17 Inv-loop μ-loop
 add-t17 c = let h = seen (c .before .before .before) .before .loop-test .taken in search needs
 
 returns-2 : tie.Need-returns-2 Inv-loop μ-loop
-returns-2 c = 
+returns-2 c =
     let l = c .before .before .before in
     let d = seen l in
     let b = begin d in
     let i = turn d .loop .inv in
-    let h = d .before .loop-test .taken in
-    ((omega (arith, i .0), omega arith),
-    looked-clash (table d) (b .args .over) (ByHops (b .args .over) (b .args .source) (b .args .hops)) (b .args .values .now) (turn d .loop .values) (after l) (b .args .k) (turn d .loop .at) (turn d .loop .at + 1)
-    (turn d .loop .changed) (b .pre .0 .shape) (i .2) (l .look-at .result) (c .enum-told .given .1) (one l))
+    let h = d .before .loop-test .taken in (
+      (omega (arith, i .0), omega arith),
+      looked-clash (table d) (b .args .over) (ByHops (b .args .over) (b .args .source) (b .args .hops)) (b .args .values .now) (turn d .loop .values) (after l) (b .args .k) (turn d .loop .at) (turn d .loop .at + 1)
+          (turn d .loop .changed) (b .pre .0 .shape) (i .2) (l .look-at .result) (c .enum-told .given .1) (one l),
+    )
 
 same-length-2 : tie.Need-same-length-2 Inv-loop μ-loop
 same-length-2 c = returns-2 c .1 .shape .long
@@ -121,17 +123,19 @@ loop-less : tie.Need-loop-less Inv-loop μ-loop
 loop-less c = omega (arith, seen (c .before .before) .before .loop-test .taken)
 
 loop-again : tie.Need-loop-again Inv-loop μ-loop
-loop-again c = 
+loop-again c =
     let l = c .before .before in
     let d = seen l in
     let b = begin d in
     let i = turn d .loop .inv in
-    let h = d .before .loop-test .taken in
-    (omega (arith, i .0), omega arith,
-    ⊎-elim (λ w. rw (w .2) (looked-set (table d) (b .args .over) (ByHops (b .args .over) (b .args .source) (b .args .hops)) (b .args .values .now) (turn d .loop .values) (after l) (b .args .k) (turn d .loop .at) (turn d .loop .at + 1)
-      (turn d .loop .changed) (b .pre .0 .shape) (i .2) (l .look-at .result) (w .1 .given .1) (one l)))
-    (λ w. rw (w .2) (looked-still (table d) (b .args .over) (ByHops (b .args .over) (b .args .source) (b .args .hops)) (b .args .values .now) (turn d .loop .values) (after l) (b .args .k) (turn d .loop .at) (turn d .loop .at + 1)
-      (turn d .loop .changed) (b .pre .0 .shape) (i .2) (l .look-at .result) (w .1 .given .1) (one l))) (c .match .came))
+    let h = d .before .loop-test .taken in (
+      omega (arith, i .0),
+      omega arith,
+      ⊎-elim (λ w. rw (w .2) (looked-set (table d) (b .args .over) (ByHops (b .args .over) (b .args .source) (b .args .hops)) (b .args .values .now) (turn d .loop .values) (after l) (b .args .k) (turn d .loop .at) (turn d .loop .at + 1)
+          (turn d .loop .changed) (b .pre .0 .shape) (i .2) (l .look-at .result) (w .1 .given .1) (one l)))
+          (λ w. rw (w .2) (looked-still (table d) (b .args .over) (ByHops (b .args .over) (b .args .source) (b .args .hops)) (b .args .values .now) (turn d .loop .values) (after l) (b .args .k) (turn d .loop .at) (turn d .loop .at + 1)
+          (turn d .loop .changed) (b .pre .0 .shape) (i .2) (l .look-at .result) (w .1 .given .1) (one l))) (c .match .came),
+    )
 
 told-requires-2 : tie.Need-told-requires-2 Inv-loop μ-loop
 told-requires-2 c κs = tt
@@ -140,13 +144,14 @@ same-length-3 : tie.Need-same-length-3 Inv-loop μ-loop
 same-length-3 c = c .before .before .loop .inv .2 .shape .long
 
 returns-3 : tie.Need-returns-3 Inv-loop μ-loop
-returns-3 c = 
+returns-3 c =
     let t = c .before .before in
     let b = t .before .before in
     let i = t .loop .inv in
-    let e : t .loop .at ≡ b .args .count = omega (arith, i .1, c .before .loop-test .left) in
-    ((omega (arith, e, b .pre .1 .0), i .1),
-    subst (λ r. Looked (b .args .atoms .now) (b .args .over) (ByHops (b .args .over) (b .args .source) (b .args .hops)) (b .args .values .now) (t .loop .values) (b .args .k) (t .loop .at) r) (sym (c .told2 .ensures)) (i .2))
+    let e : t .loop .at ≡ b .args .count = omega (arith, i .1, c .before .loop-test .left) in (
+      (omega (arith, e, b .pre .1 .0), i .1),
+      subst (λ r. Looked (b .args .atoms .now) (b .args .over) (ByHops (b .args .over) (b .args .source) (b .args .hops)) (b .args .values .now) (t .loop .values) (b .args .k) (t .loop .at) r) (sym (c .told2 .ensures)) (i .2),
+    )
 
 pub look-along-spec : {M : Type 1} → statement M
 look-along-spec =

@@ -23,7 +23,7 @@ is-true-requires : tie.Need-is-true-requires
 is-true-requires c κs = search needs
 
 returns : tie.Need-returns
-returns c = 
+returns c =
     let d = c .before in
     let a = d .before .args in
     (d .before .pre .0, λ φ v₀ k. inl (silent (a .over) (atomOf (a .atom)) (a .hops) (d .is-true .result) (d .is-true .ensures) (c .if1 .taken) φ v₀ k, refl, refl))
@@ -52,13 +52,14 @@ same-length : tie.Need-same-length
 same-length c = search needs
 
 returns-2 : tie.Need-returns-2
-returns-2 c = 
+returns-2 c =
     let g = c .before .before in
     let d = g .before .before .before in
     let a = begin g .args in
-    let h = subst (λ l. Gets l (a .values .now) (c .before .give .last .0) (c .before .give .result)) (literal-is g) (c .before .give .ensures) in
-    (gets-shape (length (a .values .now)) (literal g) (a .values .now) (c .before .give .last .0) (fits g) (begin g .pre .0) (c .before .give .result) h,
-    λ φ v₀ k. inr (says (a .over) (atomOf (a .atom)) (a .hops) (d .is-true .result) (d .is-true .ensures) (g .before .before .if1 .left) φ v₀ k, h))
+    let h = subst (λ l. Gets l (a .values .now) (c .before .give .last .0) (c .before .give .result)) (literal-is g) (c .before .give .ensures) in (
+      gets-shape (length (a .values .now)) (literal g) (a .values .now) (c .before .give .last .0) (fits g) (begin g .pre .0) (c .before .give .result) h,
+      λ φ v₀ k. inr (says (a .over) (atomOf (a .atom)) (a .hops) (d .is-true .result) (d .is-true .ensures) (g .before .before .if1 .left) φ v₀ k, h),
+    )
 
 pub look-at-spec : {M : Type 1} → statement M
 look-at-spec =

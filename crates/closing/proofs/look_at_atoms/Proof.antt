@@ -54,13 +54,13 @@ look-at-graph-requires-3 : tie.Need-look-at-graph-requires-3
 look-at-graph-requires-3 c κs = let d = c .before .before .before .before in (ready d, (begin d .pre .1 .0, placed d))
 
 returns : tie.Need-returns
-returns c = 
+returns c =
     let d = c .before .before .before in
     let b = begin d in
     seen-clash (b .args .edges .now) (b .args .atoms .now) (b .args .count) (b .args .values .now) (between d) (between d) (b .pre .0) (d .look-at-graph .result) (d .look-at-graph .ensures) (c .enum-told .given .1)
 
 returns-2 : tie.Need-returns-2
-returns-2 c = 
+returns-2 c =
     let l = c .before .before in
     let d = l .before .before .before .before .before in
     let b = begin d in
@@ -70,7 +70,7 @@ returns-2 c =
     (l .look-at-graph2 .result) (l .look-at-graph2 .ensures))
 
 returns-3 : tie.Need-returns-3
-returns-3 c = 
+returns-3 c =
     let l = c .before in
     let d = l .before .before .before .before .before in
     let b = begin d in

@@ -28,7 +28,7 @@ same-length : tie.Need-same-length
 same-length c = search needs
 
 returns : tie.Need-returns
-returns c = 
+returns c =
     let d = c .before in
     let b = begin d in
     looked-none (b .args .atoms .now) (b .args .count) (b .args .over) _ (b .args .values .now) 0 (b .args .count) (b .pre .0 .shape)
@@ -44,7 +44,7 @@ same-length-2 : tie.Need-same-length-2
 same-length-2 c = search needs
 
 returns-2 : tie.Need-returns-2
-returns-2 c = 
+returns-2 c =
     let n = c .before .before .before .before in
     let d = n .before .before .before in
     let b = begin d in

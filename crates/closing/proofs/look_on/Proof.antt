@@ -39,12 +39,13 @@ same-length : tie.Need-same-length
 same-length c = search needs
 
 returns : tie.Need-returns
-returns c = 
+returns c =
     let d = c .before in
-    let b = begin d in
-    ((b .pre .1, omega arith),
-    looked-none (table d) (b .args .count) (b .args .over) _ (b .args .values .now) (b .args .k) (b .args .count) (b .pre .0 .shape)
-    (subst (λ n. Given (table d) (b .args .count) (b .args .over) (b .args .values .now) (b .args .k) n) (c .if1 .taken) (skipped d)))
+    let b = begin d in (
+      (b .pre .1, omega arith),
+      looked-none (table d) (b .args .count) (b .args .over) _ (b .args .values .now) (b .args .k) (b .args .count) (b .pre .0 .shape)
+          (subst (λ n. Given (table d) (b .args .count) (b .args .over) (b .args .values .now) (b .args .k) n) (c .if1 .taken) (skipped d)),
+    )
 
 -- there is one
 module _ (c : tie.Else1) where
@@ -58,14 +59,14 @@ wide-requires : tie.Need-wide-requires
 wide-requires c κs = search needs
 
 walk-requires : tie.Need-walk-requires
-walk-requires c κs = 
+walk-requires c κs =
     let e = c .before .before in
     let d = e .before in
     let f = begin d .pre .0 .fits (at d) (inside e) .from-in in
     omega (arith, f, c .wide .ensures, ap (λ (A : Atom). A .from) (c .before .atom-at .ensures))
 
 look-along-requires : tie.Need-look-along-requires
-look-along-requires c κs = 
+look-along-requires c κs =
     let e = c .before .before .before .before in
     let d = e .before in
     (begin d .pre .0, (inside e, sym (ap (λ (A : Atom). A .from) (c .before .before .before .atom-at .ensures))))
@@ -74,16 +75,17 @@ same-length-2 : tie.Need-same-length-2
 same-length-2 c = search needs
 
 returns-2 : tie.Need-returns-2
-returns-2 c = 
+returns-2 c =
     let e = c .before .before .before .before .before .before in
     let d = e .before in
     let b = begin d in
     let l = c .before .look-along in
     let w = c .before .before .before in
     let h = looked-known (table d) (b .args .over) (ByHops (b .args .over) _ (w .walk .result)) (BySets (b .args .over) (b .args .sets .now)) (b .args .values .now) (l .last .1 .1 .1 .1 .1 .1 .0) (at d) (l .result .next) (l .result .step)
-            (sets-hops (b .args .over) (b .args .sets .now) (w .before .wide .result) _ (w .walk .result) (w .before .wide .ensures) (w .walk .ensures)) (l .ensures .1) in
-    ((omega (arith, skipped d .after, l .ensures .0 .0), l .ensures .0 .1),
-    looked-earlier (table d) (b .args .count) (b .args .over) _ (b .args .values .now) (l .last .1 .1 .1 .1 .1 .1 .0) (b .args .k) (at d) (l .result .next) (l .result .step) (skipped d) h)
+    (sets-hops (b .args .over) (b .args .sets .now) (w .before .wide .result) _ (w .walk .result) (w .before .wide .ensures) (w .walk .ensures)) (l .ensures .1) in (
+      (omega (arith, skipped d .after, l .ensures .0 .0), l .ensures .0 .1),
+      looked-earlier (table d) (b .args .count) (b .args .over) _ (b .args .values .now) (l .last .1 .1 .1 .1 .1 .1 .0) (b .args .k) (at d) (l .result .next) (l .result .step) (skipped d) h,
+    )
 
 pub look-on-spec : {M : Type 1} → statement M
 look-on-spec =

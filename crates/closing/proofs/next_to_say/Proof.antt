@@ -77,7 +77,7 @@ loop-less : tie.Need-loop-less Inv-loop μ-loop
 loop-less c = omega (arith, c .before .before .before .before .loop-test .taken)
 
 loop-again : tie.Need-loop-again Inv-loop μ-loop
-loop-again c = 
+loop-again c =
     let g = c .before .before in
     let d = begin (g .before) in
     let e = c .before .value-of .ensures ∙ ap (literalValue (d .args .values .now)) (literal-is g) in

@@ -40,13 +40,13 @@ returns : tie.Need-returns
 returns c = let d = c .before .before in record { shape = d .propagate .ensures .shape; onward = d .propagate .ensures .onward; passes = ends d true (c .if1 .taken) }
 
 same-edges-requires : tie.Need-same-edges-requires
-same-edges-requires c κs = 
+same-edges-requires c κs =
     let d = c .before .before .before .before in
     let l = d .propagate .ensures .shape .long in
     (omega (arith, l, begin d .pre .0 .small), subst (λ n. Placed (edgesOf (begin d .args .edges .now)) n) (sym l) (begin d .pre .1))
 
 returns-2 : tie.Need-returns-2
-returns-2 c = 
+returns-2 c =
     let d = c .before .before .before .before .before .before in
     let b = begin d in
     let k = d .before .before .copy-of in
@@ -58,7 +58,7 @@ returns-2 c =
     }
 
 returns-3 : tie.Need-returns-3
-returns-3 c = 
+returns-3 c =
     let d = c .before .before .before .before .before .before in
     record { shape = d .propagate .ensures .shape; onward = d .propagate .ensures .onward; passes = ends d false (c .before .before .before .before .if1 .left) }
 

@@ -15,11 +15,12 @@ use Rattle.closing.proofs.look_at_atoms.Reads as look-at-atoms-reads
 use Rattle.closing.proofs.pass_on.Reads as pass-on-reads
 
 look-at-atoms-requires : tie.Need-look-at-atoms-requires
-look-at-atoms-requires c κs = 
+look-at-atoms-requires c κs =
     let b = c .before .before .before in
-    let t = b .args in
-    (lent-atoms (t .plan) (t .edges .now) (t .atoms .now) (t .clauses .now) (b .pre .0) (t .values .now) (b .pre .1 .0),
-    (lent-inside (t .plan) (t .edges .now) (t .atoms .now) (t .clauses .now) (b .pre .0), lent-placed (t .plan) (t .edges .now) (t .atoms .now) (t .clauses .now) (b .pre .0) (t .values .now) (b .pre .1 .0)))
+    let t = b .args in (
+      lent-atoms (t .plan) (t .edges .now) (t .atoms .now) (t .clauses .now) (b .pre .0) (t .values .now) (b .pre .1 .0),
+      (lent-inside (t .plan) (t .edges .now) (t .atoms .now) (t .clauses .now) (b .pre .0), lent-placed (t .plan) (t .edges .now) (t .atoms .now) (t .clauses .now) (b .pre .0) (t .values .now) (b .pre .1 .0)),
+    )
 
 -- after the look at the atoms
 module _ (c : tie.After-look-at-atoms) where
@@ -39,29 +40,30 @@ enum-told-2 : tie.Need-enum-told-2
 enum-told-2 c = search needs
 
 pass-on-requires : tie.Need-pass-on-requires
-pass-on-requires c κs = 
+pass-on-requires c κs =
     let d = c .before .before .before .before in
-    let t = begin d .args in
-    (lent-ready (t .plan) (t .edges .now) (t .atoms .now) (t .clauses .now) (begin d .pre .0) (between d) (shape d),
-    lent-placed (t .plan) (t .edges .now) (t .atoms .now) (t .clauses .now) (begin d .pre .0) (between d) (shape d))
+    let t = begin d .args in (
+      lent-ready (t .plan) (t .edges .now) (t .atoms .now) (t .clauses .now) (begin d .pre .0) (between d) (shape d),
+      lent-placed (t .plan) (t .edges .now) (t .atoms .now) (t .clauses .now) (begin d .pre .0) (between d) (shape d),
+    )
 
 enum-told-3 : tie.Need-enum-told-3
 enum-told-3 c = search needs
 
 returns : tie.Need-returns
-returns c = 
+returns c =
     let d = c .before .before .before in
     let t = begin d .args in
     round-clash (t .plan) (t .edges .now) (t .atoms .now) (t .clauses .now) (begin d .pre .0) (t .values .now) (begin d .pre .1 .0) (begin d .pre .1 .1) (between d) (d .look-at-atoms .result) (d .look-at-atoms .ensures) (c .enum-told .given .1)
 
 returns-2 : tie.Need-returns-2
-returns-2 c = 
+returns-2 c =
     let d = c .before .before .before .before .before .before in
     let t = begin d .args in
     round-set (t .plan) (t .edges .now) (t .atoms .now) (t .clauses .now) (begin d .pre .0) (t .values .now) (begin d .pre .1 .0) (begin d .pre .1 .1) (between d) (d .look-at-atoms .result) (d .look-at-atoms .ensures) (c .before .before .before .enum-told2 .given .1) (c .before .pass-on .last .1 .1 .0) (c .before .pass-on .result) (c .before .pass-on .ensures)
 
 returns-3 : tie.Need-returns-3
-returns-3 c = 
+returns-3 c =
     let d = c .before .before .before in
     let t = begin d .args in
     round-still (t .plan) (t .edges .now) (t .atoms .now) (t .clauses .now) (begin d .pre .0) (t .values .now) (begin d .pre .1 .0) (begin d .pre .1 .1) (between d) (d .look-at-atoms .result) (d .look-at-atoms .ensures) (c .enum-told3 .given .1)

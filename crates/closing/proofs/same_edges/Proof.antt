@@ -74,16 +74,17 @@ loop-less : tie.Need-loop-less Inv-loop μ-loop
 loop-less c = omega (arith, c .before .before .before .before .before .loop-test .taken)
 
 loop-again : tie.Need-loop-again Inv-loop μ-loop
-loop-again c = 
+loop-again c =
     let d = c .before .before .before in
     let b = begin d in
     let p : d .wide .result - 1 ≡ number d - 1 = omega (arith, is d) in
     let f : SFits w8 (getD (b .args .before .now) (d .wide .result - 1) (pos 0)) = search needs in
     let g : SFits w8 (getD (b .args .values .now) (d .wide .result - 1) (pos 0)) = search needs in
-    let e : getD (b .args .before .now) (d .wide .result - 1) (pos 0) ≡ getD (b .args .values .now) (d .wide .result - 1) (pos 0) = bits-same w8 _ _ f g (c .if1 .left) in
-    (omega (arith, d .before .before .loop-test .taken),
-    same-one (b .args .edges .now) (b .args .before .now) (b .args .values .now) (turn d .loop .k) (turn d .loop .inv .1)
-    (value-at (b .args .values .now) (number d) (d .wide .result - 1) (range d .0) p ∙ sym e ∙ sym (value-at (b .args .before .now) (number d) (d .wide .result - 1) (range d .0) p)))
+    let e : getD (b .args .before .now) (d .wide .result - 1) (pos 0) ≡ getD (b .args .values .now) (d .wide .result - 1) (pos 0) = bits-same w8 _ _ f g (c .if1 .left) in (
+      omega (arith, d .before .before .loop-test .taken),
+      same-one (b .args .edges .now) (b .args .before .now) (b .args .values .now) (turn d .loop .k) (turn d .loop .inv .1)
+          (value-at (b .args .values .now) (number d) (d .wide .result - 1) (range d .0) p ∙ sym e ∙ sym (value-at (b .args .before .now) (number d) (d .wide .result - 1) (range d .0) p)),
+    )
 
 returns-2 : tie.Need-returns-2 Inv-loop μ-loop
 returns-2 c = same-all (c .before .before .before .args .edges .now) (c .before .before .before .args .before .now) (c .before .before .before .args .values .now) (c .before .loop .k) (omega (arith, c .loop-test .left)) (c .before .loop .inv .1)

@@ -22,12 +22,12 @@ abbrev μ-loop : tie.MeasureT-loop
 μ-loop atoms count k sets over values₀ changed₀ at₀ values changed at = count - at
 
 loop-holds : tie.Need-loop-holds Inv-loop μ-loop
-loop-holds c = 
+loop-holds c =
     let d = c .before in
     (d .pre .1, looked-start (d .args .atoms .now) (d .args .count) (d .args .over) _ (d .args .values .now) (d .args .k) (d .pre .0 .shape) (d .pre .1))
 
 look-on-requires : tie.Need-look-on-requires Inv-loop μ-loop
-look-on-requires c κs = 
+look-on-requires c κs =
     let t = c .before .before in
     let b = t .before .before in
     (still-ready (b .args .atoms .now) (b .args .count) (b .args .values .now) (t .loop .values) (b .pre .0) (t .loop .inv .1 .shape), c .before .loop-test .taken)
@@ -47,7 +47,7 @@ enum-told : tie.Need-enum-told Inv-loop μ-loop
 enum-told c = search needs
 
 returns : tie.Need-returns Inv-loop μ-loop
-returns c = 
+returns c =
     let d = c .before .before .before in
     let b = begin d in
     clash-anywhere (b .args .atoms .now) (b .args .over) (BySets (b .args .over) (b .args .sets .now)) (b .args .values .now) (after d) (b .args .k) (d .look-on .result .next) (b .args .count)
@@ -67,21 +67,25 @@ loop-less : tie.Need-loop-less Inv-loop μ-loop
 loop-less c = let h = c .before .before .before .look-on .ensures .0 in omega (arith, h .0, h .1)
 
 loop-again : tie.Need-loop-again Inv-loop μ-loop
-loop-again c = 
+loop-again c =
     let d = c .before .before .before in
-    let b = begin d in
-    (d .look-on .ensures .0 .1, looked-set (b .args .atoms .now) (b .args .over) (BySets (b .args .over) (b .args .sets .now)) (b .args .values .now) (turn d .loop .values) (after d) (b .args .k) (turn d .loop .at) (d .look-on .result .next)
-    (turn d .loop .changed) (b .pre .0 .shape) (turn d .loop .inv .1) (d .look-on .result .step) (c .enum-told2 .given .1) (d .look-on .ensures .1))
+    let b = begin d in (
+      d .look-on .ensures .0 .1,
+      looked-set (b .args .atoms .now) (b .args .over) (BySets (b .args .over) (b .args .sets .now)) (b .args .values .now) (turn d .loop .values) (after d) (b .args .k) (turn d .loop .at) (d .look-on .result .next)
+          (turn d .loop .changed) (b .pre .0 .shape) (turn d .loop .inv .1) (d .look-on .result .step) (c .enum-told2 .given .1) (d .look-on .ensures .1),
+    )
 
 loop-less-2 : tie.Need-loop-less-2 Inv-loop μ-loop
 loop-less-2 c = let h = c .before .before .before .look-on .ensures .0 in omega (arith, h .0, h .1)
 
 loop-again-2 : tie.Need-loop-again-2 Inv-loop μ-loop
-loop-again-2 c = 
+loop-again-2 c =
     let d = c .before .before .before in
-    let b = begin d in
-    (d .look-on .ensures .0 .1, looked-still (b .args .atoms .now) (b .args .over) (BySets (b .args .over) (b .args .sets .now)) (b .args .values .now) (turn d .loop .values) (after d) (b .args .k) (turn d .loop .at) (d .look-on .result .next)
-    (turn d .loop .changed) (b .pre .0 .shape) (turn d .loop .inv .1) (d .look-on .result .step) (c .enum-told3 .given .1) (d .look-on .ensures .1))
+    let b = begin d in (
+      d .look-on .ensures .0 .1,
+      looked-still (b .args .atoms .now) (b .args .over) (BySets (b .args .over) (b .args .sets .now)) (b .args .values .now) (turn d .loop .values) (after d) (b .args .k) (turn d .loop .at) (d .look-on .result .next)
+          (turn d .loop .changed) (b .pre .0 .shape) (turn d .loop .inv .1) (d .look-on .result .step) (c .enum-told3 .given .1) (d .look-on .ensures .1),
+    )
 
 told-requires : tie.Need-told-requires Inv-loop μ-loop
 told-requires c κs = tt
@@ -90,7 +94,7 @@ same-length-2 : tie.Need-same-length-2 Inv-loop μ-loop
 same-length-2 c = c .before .before .loop .inv .1 .shape .long
 
 returns-2 : tie.Need-returns-2 Inv-loop μ-loop
-returns-2 c = 
+returns-2 c =
     let t = c .before .before in
     let b = t .before .before in
     let e : t .loop .at ≡ b .args .count = omega (arith, t .loop .inv .0, c .before .loop-test .left) in

@@ -37,21 +37,22 @@ loop-less : tie.Need-loop-less Inv-loop μ-loop
 loop-less c = omega arith
 
 loop-again : tie.Need-loop-again Inv-loop μ-loop
-loop-again c = 
+loop-again c =
     let d = c .before .before .loop .to in
     let s = c .before .before .before .args .from .now in
     let i = c .before .before .loop .i in
     let h : i < length d = omega arith in
-    let f : SFits w8 (getD s i (pos 0)) = search needs in
-    (omega arith,
-     rw (toZ-ofZ f) (rw add-one (take-suc-set d i (getD s i (pos 0)) h ∙ ap (λ l. l ++ (getD s i (pos 0) ∷ [])) (c .before .before .loop .inv .1) ∙ sym (take-suc s i (pos 0) (c .before .loop-test .taken)))),
-     simp length-set (c .before .before .loop .inv .2))
+    let f : SFits w8 (getD s i (pos 0)) = search needs in (
+      omega arith,
+      rw (toZ-ofZ f) (rw add-one (take-suc-set d i (getD s i (pos 0)) h ∙ ap (λ l. l ++ (getD s i (pos 0) ∷ [])) (c .before .before .loop .inv .1) ∙ sym (take-suc s i (pos 0) (c .before .loop-test .taken)))),
+      simp length-set (c .before .before .loop .inv .2),
+    )
 
 same-length : tie.Need-same-length Inv-loop μ-loop
 same-length c = c .before .loop .inv .2
 
 returns : tie.Need-returns Inv-loop μ-loop
-returns c = 
+returns c =
     let d = c .before .loop .to in
     let s = c .before .before .args .from .now in
     let i = c .before .loop .i in

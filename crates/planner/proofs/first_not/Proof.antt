@@ -55,9 +55,10 @@ loop-less c = search needs
 
 loop-again : tie.Need-loop-again Inv-loop μ-loop
 loop-again c =
-    let d = c .before in
-    (omega (arith, d .before .before .loop-test .taken),
-    rw add-one (sym (first-skip (taken (d .before .before .before .before .args .partial)) (a d) (i d) (d .before .before .loop-test .taken) (sym (ok d) ∙ not-false _ (c .if1 .left))) ∙ d .before .before .before .loop .inv .1))
+    let d = c .before in (
+      omega (arith, d .before .before .loop-test .taken),
+      rw add-one (sym (first-skip (taken (d .before .before .before .before .args .partial)) (a d) (i d) (d .before .before .loop-test .taken) (sym (ok d) ∙ not-false _ (c .if1 .left))) ∙ d .before .before .before .loop .inv .1),
+    )
 
 returns-2 : tie.Need-returns-2 Inv-loop μ-loop
 returns-2 c = omega (arith, first-none (taken (c .before .before .args .partial)) (c .before .before .args .values .now) (c .before .loop .i) (c .loop-test .left), c .before .loop .inv .1)

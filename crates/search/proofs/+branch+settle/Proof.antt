@@ -170,7 +170,7 @@ branch-with-requires : (t : ℕ) → branch-lts.Need-with-requires (
   settle-below t,
   settle.Post,
 ) (branch-at t) branch.Post
-branch-with-requires t c κs = 
+branch-with-requires t c κs =
     let d = c .before .before .before in
     rw (off-is (place t d + 1) (small t d)) (record { low = omega (arith, natAbs-off (place t d + 1)); high = omega (arith, natAbs-off (place t d + 1), small t d) })
 
@@ -196,15 +196,18 @@ branch-settle-requires : (t : ℕ) → branch-lts.Need-settle-requires (
   settle-below t,
   settle.Post,
 ) (branch-at t) branch.Post
-branch-settle-requires t c κs = 
+branch-settle-requires t c κs =
     let d = c .before .before .before .before in
     let e = tried-off t d (c .with .result .values) (c .with .ensures) in
     let o = ap opens e in
     let f = fewer-off (n t d) (set t d) (place t d) (shape t d) (low t d) in
-    let m = d .pre .0 in
-    (omega arith,
-    (record { lent = lent t d; shape = subst (λ l. Assigned (n t d) l) (sym e) (off-shape (whole t d) (set t d) (place t d) (shape t d) (low t d)); left = omega (arith, d .pre .1 .0 .left, c .before .if1 .left) },
-    (omega (arith, inside t d), subst (λ l. Filled l (place t d + 1)) (sym e) (filled-off (n t d) (set t d) (place t d) (shape t d) (low t d)))))
+    let m = d .pre .0 in (
+      omega arith,
+      (
+        record { lent = lent t d; shape = subst (λ l. Assigned (n t d) l) (sym e) (off-shape (whole t d) (set t d) (place t d) (shape t d) (low t d)); left = omega (arith, d .pre .1 .0 .left, c .before .if1 .left) },
+        (omega (arith, inside t d), subst (λ l. Filled l (place t d + 1)) (sym e) (filled-off (n t d) (set t d) (place t d) (shape t d) (low t d))),
+      ),
+    )
 
 branch-enum-told : (t : ℕ) → branch-lts.Need-enum-told (
   with-reads.Asked,
@@ -220,7 +223,7 @@ branch-with-requires-2 : (t : ℕ) → branch-lts.Need-with-requires-2 (
   settle-below t,
   settle.Post,
 ) (branch-at t) branch.Post
-branch-with-requires-2 t c κs = 
+branch-with-requires-2 t c κs =
     let d = c .before .before .before .before .before .before .before in
     rw (on-is (place t d + 1) (small t d)) (record { low = omega arith; high = small t d })
 
@@ -238,16 +241,19 @@ branch-settle-requires-2 : (t : ℕ) → branch-lts.Need-settle-requires-2 (
   settle-below t,
   settle.Post,
 ) (branch-at t) branch.Post
-branch-settle-requires-2 t c κs = 
+branch-settle-requires-2 t c κs =
     let s = c .before .before .before in
     let d = begin t s in
     let e = tried-on t d (c .with2 .result .values) (c .with2 .ensures) in
     let o = ap opens e in
     let f = fewer-on (n t d) (set t d) (place t d) (shape t d) (low t d) in
-    let m = d .pre .0 in
-    (omega arith,
-    (record { lent = lent t d; shape = subst (λ l. Assigned (n t d) l) (sym e) (on-shape (whole t d) (set t d) (place t d) (shape t d) (low t d)); left = left t s .most },
-    (omega (arith, inside t d), subst (λ l. Filled l (place t d + 1)) (sym e) (filled-on (n t d) (set t d) (place t d) (shape t d) (low t d)))))
+    let m = d .pre .0 in (
+      omega arith,
+      (
+        record { lent = lent t d; shape = subst (λ l. Assigned (n t d) l) (sym e) (on-shape (whole t d) (set t d) (place t d) (shape t d) (low t d)); left = left t s .most },
+        (omega (arith, inside t d), subst (λ l. Filled l (place t d + 1)) (sym e) (filled-on (n t d) (set t d) (place t d) (shape t d) (low t d))),
+      ),
+    )
 
 branch-returns-2 : (t : ℕ) → branch-lts.Need-returns-2 (
   with-reads.Asked,
@@ -273,7 +279,7 @@ branch-returns-3 t c = λ b k.
     let d = begin t s in
     let w = s .settle .result .verdict in
     let other : w ≡ Impossible → ⊥ =
-          λ e. ⊎-elim (λ (p : _≡_ {A = ℕ} 1 0). omega arith) (λ (p : _≡_ {A = ℕ} 1 2). omega arith) (rw e at (c .match .keys2)) in
+    λ e. ⊎-elim (λ (p : _≡_ {A = ℕ} 1 0). omega arith) (λ (p : _≡_ {A = ℕ} 1 2). omega arith) (rw e at (c .match .keys2)) in
     off-side (whole t d) (lent t d .ranged) b (set t d) (place t d) k (low t d) (d .args .budget) (d .args .count) (room t s) w other (take (n t d) (s .settle .result .plan .values)) (s .settle .result .count) (left t s)
 
 -- after the closing
@@ -333,7 +339,7 @@ settle-returns : (t : ℕ) → settle-lts.Need-returns (
   branch-below t,
   branch.Post,
 ) (settle-at t) settle.Post
-settle-returns t c = 
+settle-returns t c =
     let k = c .before .before in
     let d = entry t k in
     report-clash (file t k) (given t k) (after t k) (d .args .budget) (d .args .count) (d .pre .1 .0 .left) (closed-clash (file t k) (given t k) (after t k) (k .closed .result .clash) (c .if1 .taken) (k .closed .ensures))
@@ -401,7 +407,7 @@ settle-returns-2 : (t : ℕ) → settle-lts.Need-returns-2 (
   branch-below t,
   branch.Post,
 ) (settle-at t) settle.Post
-settle-returns-2 t c = 
+settle-returns-2 t c =
     let o = c .before .before in
     let k = shut t o in
     let d = entry t k in
@@ -418,15 +424,16 @@ settle-branch-requires : (t : ℕ) → settle-lts.Need-branch-requires (
   branch-below t,
   branch.Post,
 ) (settle-at t) settle.Post
-settle-branch-requires t c κs = 
+settle-branch-requires t c κs =
     let o = c .before .before in
     let k = shut t o in
     let d = entry t k in
     let m = d .pre .0 in
     let f = fewer-closed (file t k) (given t k) (after t k) (d .pre .1 .0 .shape) (is-set t o) in
-    let h : o .open-place .result < length (after t k) = omega (arith, o .open-place .ensures .inside, is-set t o .shape .long, c .if2 .left, c .before .wide .ensures) in
-    (omega arith,
-    (record { lent = d .pre .1 .0 .lent; shape = is-set t o .shape; left = d .pre .1 .0 .left }, first-lowest (after t k) (d .args .from) (o .open-place .result) (filled t o) (o .open-place .ensures) h))
+    let h : o .open-place .result < length (after t k) = omega (arith, o .open-place .ensures .inside, is-set t o .shape .long, c .if2 .left, c .before .wide .ensures) in (
+      omega arith,
+      (record { lent = d .pre .1 .0 .lent; shape = is-set t o .shape; left = d .pre .1 .0 .left }, first-lowest (after t k) (d .args .from) (o .open-place .result) (filled t o) (o .open-place .ensures) h),
+    )
 
 settle-returns-3 : (t : ℕ) → settle-lts.Need-returns-3 (
   closed-reads.Asked,

@@ -38,12 +38,12 @@ slice-aggregate-close : tie.Need-slice-aggregate-close
 slice-aggregate-close c = sym (length-take-le _ _ (inside (c .before)))
 
 close-requires : tie.Need-close-requires
-close-requires c κs = 
+close-requires c κs =
     let b = begin (c .before) in
     (b .pre .0, subst (λ n. Assigned (b .args .plan .variables) (take n (b .args .a .values))) (sym (c .before .wide .ensures)) (b .pre .1))
 
 returns : tie.Need-returns
-returns c = 
+returns c =
     let d = c .before .before .before in
     let b = begin d in
     let k = c .before .close in

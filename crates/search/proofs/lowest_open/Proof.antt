@@ -26,7 +26,7 @@ shared-slice-copy-out-if1 : tie.Need-shared-slice-copy-out-if1 Inv-loop μ-loop
 shared-slice-copy-out-if1 c = c .loop-test .taken
 
 returns : tie.Need-returns Inv-loop μ-loop
-returns c = 
+returns c =
     let t = c .before .before .before in
     let f : SFits w8 (getD (t .before .args .values .now) (t .loop .at) (pos 0)) = search needs in
     let i = t .loop .inv in
@@ -42,7 +42,7 @@ loop-again : tie.Need-loop-again Inv-loop μ-loop
 loop-again c = let t = c .before .before .before in passed-one _ _ _ (t .loop .inv) (c .before .before .loop-test .taken) (λ e. c .if1 .left (ap (ofZ w8) e))
 
 returns-2 : tie.Need-returns-2 Inv-loop μ-loop
-returns-2 c = 
+returns-2 c =
     let i = c .before .loop .inv in
     record { after = i .after; inside = i .inside; before = i .before; here = λ h. absurd (omega (arith, c .loop-test .left)) }
 

@@ -33,12 +33,12 @@ slice-aggregate-lowest-open : tie.Need-slice-aggregate-lowest-open
 slice-aggregate-lowest-open c = sym (length-take-le _ _ (inside (c .before)))
 
 lowest-open-requires : tie.Need-lowest-open-requires
-lowest-open-requires c κs = 
+lowest-open-requires c κs =
     let d = c .before in
     omega (arith, length-take-le (d .wide .result) (begin d .args .a .values) (inside d), begin d .pre .1, d .wide .ensures)
 
 returns : tie.Need-returns
-returns c = 
+returns c =
     let d = c .before .before in
     let b = begin d in
     subst (λ n. FirstOpen (take n (b .args .a .values)) (b .args .from) (c .lowest-open .result)) (d .wide .ensures) (c .lowest-open .ensures)

@@ -36,9 +36,10 @@ module _ (c : tie.After-all-open) where
   starts = all-open-is n (c .all-open .result .values) (begin .pre .0 .ranged .variables) (c .all-open .ensures)
 
 settle-requires : tie.Need-settle-requires
-settle-requires c κs = 
-    (record { lent = begin c .pre .0; shape = subst (λ l. Assigned (n c) l) (sym (starts c)) (all-open-shape (n c)); left = omega arith },
-    (omega arith, λ j h. absurd (omega arith)))
+settle-requires c κs = (
+  record { lent = begin c .pre .0; shape = subst (λ l. Assigned (n c) l) (sym (starts c)) (all-open-shape (n c)); left = omega arith },
+  (omega arith, λ j h. absurd (omega arith)),
+)
 
 enum-told : tie.Need-enum-told
 enum-told c = search needs
@@ -56,18 +57,18 @@ same-length : tie.Need-same-length
 same-length c = search needs
 
 returns : tie.Need-returns
-returns c = 
+returns c =
     let s = c .before .before .before .before .before .before in
     let d = s .before in
     let e = c .before .write .ensures in
     record {
       searched = whole-plan (whole d) _ (replicate (n d) (pos 0)) (take (n d) (s .settle .result .plan .values)) (begin d .args .budget) (s .settle .result .count) (s .settle .result .verdict) (starts d) (s .settle .ensures)
-        (c .before .before .before .before .enum-told .given .1) (c .before .write .last .1 .1 .0) e;
+          (c .before .before .before .before .enum-told .given .1) (c .before .write .last .1 .1 .0) e;
       keeps = same-length c;
     }
 
 returns-2 : tie.Need-returns-2
-returns-2 c = 
+returns-2 c =
     let s = c .before .before in
     let d = s .before in
     record {
@@ -76,7 +77,7 @@ returns-2 c =
     }
 
 returns-3 : tie.Need-returns-3
-returns-3 c = 
+returns-3 c =
     let s = c .before .before in
     let d = s .before in
     record {

@@ -32,7 +32,7 @@ slice-aggregate-copy : tie.Need-slice-aggregate-copy
 slice-aggregate-copy c = sym (length-take-le _ _ (inside (c .before)))
 
 copy-requires : tie.Need-copy-requires
-copy-requires c κs = 
+copy-requires c κs =
     let d = c .before .before in
     begin d .pre .1 ∙ sym (d .wide .ensures) ∙ sym (length-take-le _ _ (inside d))
 
@@ -40,7 +40,7 @@ same-length : tie.Need-same-length
 same-length c = search needs
 
 returns : tie.Need-returns
-returns c = 
+returns c =
     let d = c .before .before .before .before in
     c .before .copy .ensures ∙ ap (λ n. take n (begin d .args .a .values)) (d .wide .ensures)
 
