@@ -3,14 +3,14 @@
 use mathlib.Core.Path.{_≡_, refl, sym, subst, _∙_, ap}
 use mathlib.Core.Logic.{_⊎_, inl, inr, _≢_}
 use mathlib.Core.List.{List, [], _∷_, _++_, List·Memᴰ, List·Memᴰ·head, List·Memᴰ·tail}
-use Prim.Native.Nat.{ℕ, zero, suc, _+_, _*_, _-_, _≤_, _<_}
+use Prim.Native.Nat.{ℕ, suc, _+_, _-_, _≤_, _<_}
 use native.Mathlib.Decide.{ℕ-discrete}
 use native.Mathlib.Omega.{arith}
 use lib.ListN.{length, getD, length-append, List·getD-append}
 use lib.Seq.{getD-append-add}
 use lib.IntN.{ℤ, pos}
-use Rattle.plan.specs.Meaning.{Edge, Atom, atom}
-use Rattle.plan.specs.Ranged.{Ranged, EndsFit, LiteralFits}
+use Rattle.plan.specs.Meaning.{atom}
+use Rattle.plan.specs.Ranged.{LiteralFits}
 use Rattle.plan.specs.Search.{Assigned}
 use Rattle.plan.specs.Written.{flat}
 use Rattle.plan.specs.Tables.{edgesOf, atomsOf, clausesOf, planOf, Lent}

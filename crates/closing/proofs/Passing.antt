@@ -3,13 +3,12 @@
 use mathlib.Core.Path.{_≡_, refl, sym, subst, _∙_, ap}
 use mathlib.Core.Logic.{_⊎_, inl, inr}
 use mathlib.Core.Bool.{Bool, true, false}
-use mathlib.Core.List.{List, [], _∷_, List·Memᴰ, List·Memᴰ·head, List·Memᴰ·tail, List·Memᴰ·cases-cons, List·Memᴰ·not-nil}
-use Prim.Native.Nat.{ℕ, suc, _+_, _-_, _≤_, _<_}
+use mathlib.Core.List.{List, List·Memᴰ, List·Memᴰ·head, List·Memᴰ·tail, List·Memᴰ·cases-cons, List·Memᴰ·not-nil}
+use Prim.Native.Nat.{ℕ, _-_, _≤_, _<_}
 use native.Mathlib.Omega.{arith}
 use lib.ListN.{length, drop, drop-of-length-le}
 use lib.IntN.{ℤ}
-use Rattle.plan.specs.Meaning.{PlanFile, trueIn, add}
-use Rattle.plan.specs.Closing.{Clashes}
+use Rattle.plan.specs.Meaning.{PlanFile, trueIn}
 use Rattle.plan.specs.Search.{Assigned, opens, nothing}
 use Rattle.plan.specs.Tables.{clausesOf}
 use Rattle.plan.proofs.Add.{add-shape, add-opens}

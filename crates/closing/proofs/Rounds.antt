@@ -4,18 +4,18 @@ use mathlib.Core.Path.{_≡_, refl, sym, subst, _∙_, ap}
 use mathlib.Core.Logic.{_⊎_, inl, inr, _≢_}
 use mathlib.Core.Bool.{Bool, true, false, not}
 use mathlib.Core.List.{List, List·Memᴰ}
-use Prim.Native.Nat.{ℕ, zero, suc, _+_, _*_, _-_, _≤_, _<_}
+use Prim.Native.Nat.{ℕ, _+_, _*_, _-_, _≤_, _<_}
 use native.Mathlib.Decide.{ℕ-discrete}
 use native.Mathlib.Omega.{arith}
 use lib.ListN.{length, getD, set}
 use lib.Seq.{getD-set-same, getD-set-other}
-use lib.IntN.{ℤ, pos, negsuc}
+use lib.IntN.{ℤ, pos}
 use lib.Dec.{T, T-not, not-T}
 use Rattle.plan.specs.Meaning.{Edge, Atom, PlanFile, on, off, value, trueIn, under, over, atom, edge}
 use Rattle.plan.specs.Ranged.{Ranged}
-use Rattle.plan.specs.Closing.{Gives, unit, holds, fails, Obeys, Clashes}
+use Rattle.plan.specs.Closing.{unit, holds, fails, Obeys, Clashes}
 use Rattle.plan.specs.Search.{Assigned, opens, nothing, found, Closes}
-use Rattle.plan.specs.Tables.{edgesOf, atomsOf, clausesOf, planOf, Lent}
+use Rattle.plan.specs.Tables.{edgesOf, clausesOf, planOf, Lent}
 use Rattle.plan.specs.declared.Plan.{Plan}
 use Rattle.plan.proofs.Exists.{step-done}
 use Rattle.plan.proofs.Tables.{atoms-length}
@@ -24,7 +24,7 @@ use Rattle.plan.proofs.Walks.{le-or-lt, true-mono, at-mem}
 use Rattle.walk.specs.Hopping.{Placed}
 use Rattle.walk.proofs.Filling.{edges-most}
 use Rattle.closing.specs.Closed.{Onward, Tells}
-use Rattle.closing.specs.Clauses.{HasClauses, ClauseClash, AllQuiet, Ends, Propagated}
+use Rattle.closing.specs.Clauses.{AllQuiet}
 use Rattle.closing.specs.Atoms.{AtomsReady, givenBy, SaysIn, SameEdges, HasAtoms, Swept, Looked, ByEdges, AtomsQuiet, AtomsSeen, AllLooked, afterSet}
 use Rattle.closing.specs.Rounds.{BeginsWith, Passes, PassedOn, Turns, Round}
 use Rattle.closing.specs.declared.Step.{Step}

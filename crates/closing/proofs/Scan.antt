@@ -1,29 +1,29 @@
 -- The look at one clause of the flat table: where it stops, and what the clause then does.
 -- Assumes nothing.
-use mathlib.Core.Path.{_≡_, refl, sym, subst, _∙_, ap}
+use mathlib.Core.Path.{_≡_, sym, subst, _∙_, ap}
 use mathlib.Core.Logic.{_⊎_, inl, inr, _≢_, ⊎-elim}
-use mathlib.Core.Bool.{Bool, true, false, not}
-use mathlib.Core.List.{List, [], _∷_, _++_, List·Memᴰ}
-use Prim.Native.Nat.{ℕ, zero, suc, _+_, _-_, _≤_, _<_}
+use mathlib.Core.Bool.{true, false, not}
+use mathlib.Core.List.{List, _∷_, _++_, List·Memᴰ}
+use Prim.Native.Nat.{ℕ, suc, _+_, _-_, _≤_, _<_}
 use native.Mathlib.Decide.{ℕ-discrete}
 use native.Mathlib.Numerals.{add-one}
 use native.Mathlib.Omega.{arith}
-use lib.ListN.{length, getD, take, drop, take-append-drop, length-take, length-drop}
+use lib.ListN.{length, getD, take, drop, take-append-drop, length-drop}
 use lib.Seq.{drop-drop, drop-cons, getD-take, getD-drop, length-take-le}
 use lib.IntN.{ℤ, pos, negsuc, negℤ, natAbs, ℤ-discrete}
 use lib.Dec.{T, eqb}
 use mir.Syntax.{w8}
 use mir.Val.{ofZ}
-use Rattle.plan.specs.Meaning.{Literals, trueIn, add}
+use Rattle.plan.specs.Meaning.{Literals, trueIn}
 use Rattle.plan.specs.Ranged.{LiteralFits}
 use Rattle.plan.specs.Search.{Assigned}
 use Rattle.plan.specs.Tables.{clausesOf, literalValue}
 use Rattle.plan.proofs.Add.{IsValue}
-use Rattle.plan.proofs.Values.{literal-value, literal-true, literal-false}
+use Rattle.plan.proofs.Values.{literal-value, literal-false}
 use Rattle.plan.proofs.Tables.{clause-at}
 use Rattle.plan.proofs.Closing.{never-both}
 use Rattle.plan.proofs.Walks.{le-or-lt, mem-at, at-mem}
-use Rattle.closing.specs.Clauses.{Table, Stops, Stop, End, Next, AllFalse, OthersFalse, Unit, Quiet}
+use Rattle.closing.specs.Clauses.{Stops, Stop, End, Next, AllFalse, OthersFalse, Unit, Quiet}
 
 -- the value of a literal, as the code tests it
 by-value : (a : List ℤ) (l passed v : ℤ) → 1 ≤ natAbs l → v ≡ literalValue a l → IsValue v → l ≢ pos 0 → l ≢ passed

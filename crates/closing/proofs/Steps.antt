@@ -1,16 +1,15 @@
 -- The laws of one step of closing and of several.
 -- Assumes nothing.
-use mathlib.Core.Path.{_≡_, refl, sym, subst, ap}
-use mathlib.Core.Bool.{Bool, true, false}
+use mathlib.Core.Path.{sym, subst}
 use mathlib.Core.List.{List, List·Memᴰ}
-use Prim.Native.Nat.{ℕ, suc, _≤_, _<_}
+use Prim.Native.Nat.{_≤_, _<_}
 use native.Mathlib.Omega.{arith}
 use lib.IntN.{ℤ, negℤ, natAbs}
 use lib.Dec.{T}
 use Rattle.plan.specs.Meaning.{PlanFile, trueIn, add}
 use Rattle.plan.specs.Ranged.{Ranged}
 use Rattle.plan.specs.Closing.{Gives, unit, Clashes, all-false}
-use Rattle.plan.specs.Search.{Assigned, opens, Outcome, nothing, found}
+use Rattle.plan.specs.Search.{Assigned, opens, nothing}
 use Rattle.plan.proofs.Closing.{clash-mono}
 use Rattle.plan.proofs.Add.{add-above, add-shape, add-opens, opens-sub}
 use Rattle.plan.proofs.Exists.{gives-range, step-add}

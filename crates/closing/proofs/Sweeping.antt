@@ -1,17 +1,17 @@
 -- The look at the atoms in one graph: one atom, several behind one another, and what is known of the graph.
 -- Assumes nothing.
 use mathlib.Core.Path.{_≡_, refl, sym, subst, _∙_, ap}
-use mathlib.Core.Logic.{_⊎_, inl, inr, _≢_, _↔_}
+use mathlib.Core.Logic.{_⊎_, inl, inr, _≢_}
 use mathlib.Core.Bool.{Bool, true, false, Bool·beq}
 use mathlib.Core.List.{List, List·Memᴰ}
-use Prim.Native.Nat.{ℕ, zero, suc, _+_, _*_, _≤_, _<_}
+use Prim.Native.Nat.{ℕ, zero, suc, _+_, _≤_, _<_}
 use native.Mathlib.Omega.{arith}
-use lib.ListN.{length, getD, set}
+use lib.ListN.{length}
 use lib.Seq.{getD-set-other}
-use lib.IntN.{ℤ, pos, negsuc, negℤ, natAbs}
+use lib.IntN.{ℤ, pos, negsuc, natAbs}
 use lib.Dec.{T}
-use Rattle.plan.specs.Meaning.{Edge, Atom, PlanFile, _⊆_, on, off, value, trueIn, add, atom}
-use Rattle.plan.specs.Ranged.{Ranged, EndsFit, LiteralFits}
+use Rattle.plan.specs.Meaning.{Edge, Atom, PlanFile, _⊆_, value, trueIn, add, atom}
+use Rattle.plan.specs.Ranged.{Ranged, LiteralFits}
 use Rattle.plan.specs.Closing.{Gives, holds, fails, Clashes}
 use Rattle.plan.specs.Search.{Assigned, opens, nothing}
 use Rattle.plan.specs.Tables.{edgesOf, atomsOf}

@@ -2,22 +2,22 @@
 -- branchings exceed the budget; each exactly so, and B has its bound.
 -- Assumes nothing.
 use mathlib.Core.Path.{_≡_, refl, sym, subst, _∙_, ap}
-use mathlib.Core.Logic.{_⊎_, inl, inr, _≢_, _↔_}
+use mathlib.Core.Logic.{_⊎_, inl, inr, _↔_}
 use mathlib.Core.Bool.{Bool}
 use mathlib.Core.List.{List}
 use Prim.Native.Nat.{ℕ, zero, suc, _-_, _^_, _≤_, _<_}
 use native.Mathlib.Omega.{arith}
-use lib.ListN.{length, getD, replicate}
+use lib.ListN.{getD, replicate}
 use lib.IntN.{ℤ, pos, negsuc}
 use lib.Dec.{T}
 use Rattle.plan.specs.Meaning.{PlanFile, isOn, isOff, value, trueIn, _⊆_, IsPlan}
 use Rattle.plan.specs.Ranged.{Ranged}
-use Rattle.plan.specs.Search.{opens, Closes, Outcome, nothing, found, Tree, Before, FirstPlan, Right, Answer, decided, undecided, Searched, within, beyond}
+use Rattle.plan.specs.Search.{opens, Closes, Outcome, nothing, found, Tree, Before, FirstPlan, decided, undecided, Searched, within, beyond}
 use Rattle.plan.proofs.Add.{on-one, off-one}
 use Rattle.plan.proofs.Search.{tree-right, count-below, one-search}
 use Rattle.plan.proofs.Walks.{le-or-lt}
 use Rattle.plan.proofs.Budget.{searched-unique}
-use Rattle.search.specs.Report.{answerOf, countOf, Answers}
+use Rattle.search.specs.Report.{countOf, Answers}
 use Rattle.search.specs.declared.Found.{Found}
 use Rattle.search.specs.declared.Found.the-variants.{Plan, Impossible, Undecided}
 use Rattle.search.proofs.Firsts.{each-open}

@@ -8,11 +8,11 @@ use native.Mathlib.Decide.{ℕ-discrete}
 use native.Mathlib.Omega.{arith}
 use lib.ListN.{length, getD, set, take, replicate, length-replicate}
 use lib.Seq.{getD-set-same, getD-set-other, take-set-lt}
-use lib.IntN.{ℤ, pos, negsuc, negℤ, natAbs}
+use lib.IntN.{ℤ, pos, negsuc, natAbs}
 use lib.Dec.{T}
 use Rattle.plan.specs.Meaning.{PlanFile, isOn, isOff, value, trueIn, add, on, off, Full}
 use Rattle.plan.specs.Search.{Assigned, opens, Closes, Lowest}
-use Rattle.plan.proofs.Add.{IsValue, on-one, off-one, add-opens, opens-sub}
+use Rattle.plan.proofs.Add.{IsValue, add-opens, opens-sub}
 use Rattle.plan.proofs.Search.{low-n, not-on, not-off}
 use Rattle.plan.proofs.Walks.{le-or-lt}
 use Rattle.search.specs.Report.{Filled, FirstOpen}

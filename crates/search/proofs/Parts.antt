@@ -1,16 +1,16 @@
 -- The ways out of a part of the search, with the count so far and the budget.
 -- Assumes nothing.
-use mathlib.Core.Path.{_≡_, refl, sym, subst, _∙_, ap}
+use mathlib.Core.Path.{_≡_, refl, sym, subst}
 use mathlib.Core.Logic.{_≢_}
 use mathlib.Core.Bool.{Bool, true, false}
 use mathlib.Core.List.{List}
-use Prim.Native.Nat.{ℕ, zero, suc, _+_, _-_, _≤_, _<_}
+use Prim.Native.Nat.{ℕ, suc, _+_, _-_, _≤_, _<_}
 use native.Mathlib.Omega.{arith}
 use lib.IntN.{ℤ}
 use Rattle.plan.specs.Meaning.{PlanFile, on, off, add, trueIn, Full}
 use Rattle.plan.specs.Ranged.{Ranged}
 use Rattle.plan.specs.Closing.{Clashes}
-use Rattle.plan.specs.Search.{Closes, CloseIs, Lowest, nothing, found, Answer, decided, undecided, Searched, within, beyond}
+use Rattle.plan.specs.Search.{Closes, CloseIs, Lowest, nothing, found, Answer, decided, undecided, Searched, beyond}
 use Rattle.plan.proofs.Budget.{at-clash, at-plan, no-budget, off-finds, off-ends, on-decides, on-ends}
 use Rattle.closing.specs.Closed.{closedOf}
 use Rattle.search.specs.Report.{verdictOf, Reported}

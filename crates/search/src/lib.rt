@@ -2,9 +2,9 @@ use plan::Assignment;
 use plan::Plan;
 ghost use mathlib.Core.Path.{_≡_};
 ghost use mathlib.Core.List.{List};
-ghost use Prim.Native.Nat.{ℕ, _+_, _-_, _<_, _≤_};
-ghost use lib.IntN.{ℤ, pos};
-ghost use lib.ListN.{length, getD, take};
+ghost use Prim.Native.Nat.{_+_, _-_, _<_, _≤_};
+ghost use lib.IntN.{ℤ};
+ghost use lib.ListN.{length, take};
 ghost use Rattle.plan.specs.Search.{Assigned, Closes, CloseIs, Lowest};
 ghost use Rattle.plan.specs.Tables.{planOf, Lent};
 ghost use Rattle.closing.specs.Closed.{closedOf};
@@ -72,7 +72,7 @@ fn open_place(plan: Plan, a: Assignment, from: usize) -> usize
 }
 
 // Closes, and finds a clash, a plan, or the lowest open variable to branch on. The places below `from` are assigned.
-pub fn settle(
+fn settle(
     plan: Plan,
     edges: &[u16],
     atoms: &[u16],
@@ -108,7 +108,7 @@ pub fn settle(
 }
 
 // Tries the variable at `place` off, and on only if off held no plan.
-pub fn branch(
+fn branch(
     plan: Plan,
     edges: &[u16],
     atoms: &[u16],
@@ -129,13 +129,14 @@ pub fn branch(
             count: count,
         };
     }
-    let literal = (place + 1) as i16;
+    let on = (place + 1) as i16;
+    let off = -on;
     let first = settle(
         plan,
         edges,
         atoms,
         clauses,
-        a.with(-literal),
+        a.with(off),
         place + 1,
         budget,
         count + 1,
@@ -149,7 +150,7 @@ pub fn branch(
                 edges,
                 atoms,
                 clauses,
-                a.with(literal),
+                a.with(on),
                 place + 1,
                 budget,
                 so_far,
@@ -190,16 +191,8 @@ pub fn search(
     requires { ⌜ length (now result) ≡ plan .variables ⌝ }
     ensures { λ r. ⌜ Answers (planOf plan (now (edges .entry)) (now (atoms .entry)) (now (clauses .entry))) budget (now (result .entry)) (now (result .exit)) r ⌝ }
 {
-    let outcome = settle(
-        plan,
-        edges,
-        atoms,
-        clauses,
-        Assignment::all_open(),
-        0,
-        budget,
-        0,
-    );
+    let start = Assignment::all_open();
+    let outcome = settle(plan, edges, atoms, clauses, start, 0, budget, 0);
     let verdict = outcome.verdict;
     let count = outcome.count;
     match verdict {

@@ -1,7 +1,6 @@
 use mathlib.Core.Path.{_≡_, refl, sym, ap, _∙_, subst}
 use mathlib.Core.List.{List}
 use Prim.Native.Nat.{ℕ, _+_, _<_}
-use native.Mathlib.Omega.{arith}
 use lib.IntN.{ℤ, pos}
 use lib.ListN.{length, getD}
 use lib.Dec.{T}
@@ -19,12 +18,6 @@ use Rattle.closing.proofs.Scan.{not-last, at-zero, at-true, at-second, 
 use borrow.Author.Needs.{needs}
 use Rattle.closing.proofs.apply.Statement.{statement}
 use Rattle.closing.proofs.apply.Tie as tie
-use Rattle.closing.proofs.apply.Reads as reads
-use Rattle.closing.proofs.apply.Lts as lts
-use Rattle.closing.proofs.end_of.Reads as end-of-reads
-use Rattle.closing.proofs.stop_of.Reads as stop-of-reads
-use Rattle.plan.proofs.put.Reads as put-reads
-use Rattle.plan.proofs.value_of.Reads as value-of-reads
 
 stop-of-requires : tie.Need-stop-of-requires
 stop-of-requires c κs = search needs

@@ -1,12 +1,11 @@
-use mathlib.Core.Path.{_≡_, refl, sym, ap, _∙_, subst}
+use mathlib.Core.Path.{_≡_, sym, _∙_, subst}
 use mathlib.Core.Bool.{Bool, true, false}
 use mathlib.Core.List.{List}
-use Prim.Native.Nat.{ℕ, _<_}
 use borrow.Author.Needs.{needs}
 use lib.IntN.{ℤ}
 use lib.ListN.{length}
 use Rattle.plan.specs.Meaning.{PlanFile}
-use Rattle.plan.specs.Search.{Assigned, opens, nothing, found}
+use Rattle.plan.specs.Search.{opens, nothing, found}
 use Rattle.plan.specs.Tables.{planOf}
 use Rattle.closing.specs.Closed.{Onward}
 use Rattle.closing.specs.Clauses.{HasClauses, Ends}
@@ -14,10 +13,6 @@ use Rattle.closing.proofs.Lending.{lent-ready, lent-has-clauses}
 use Rattle.closing.proofs.Rounds.{Going, first-round, go-clash, go-still, go-on, go-fewer}
 use Rattle.closing.proofs.close.Statement.{statement}
 use Rattle.closing.proofs.close.Tie as tie
-use Rattle.closing.proofs.close.Reads as reads
-use Rattle.closing.proofs.close.Lts as lts
-use Rattle.closing.proofs.propagate.Reads as propagate-reads
-use Rattle.closing.proofs.round.Reads as round-reads
 
 abbrev Inv-loop : tie.InvT-loop
 Inv-loop plan edges atoms clauses values₀ values = Going (planOf plan edges atoms clauses) values₀ values

@@ -1,18 +1,15 @@
-use mathlib.Core.Path.{_≡_, refl, sym, ap, _∙_}
-use mathlib.Core.List.{List}
-use Prim.Native.Nat.{ℕ, _-_, _+_, _<_, _≤_}
+use mathlib.Core.Path.{_≡_, refl}
+use Prim.Native.Nat.{ℕ, _-_, _<_, _≤_}
 use native.Mathlib.Omega.{arith}
 use borrow.Author.Needs.{needs}
-use lib.IntN.{ℤ, pos}
-use lib.ListN.{length, getD, set, length-set}
+use lib.IntN.{pos}
+use lib.ListN.{length, getD, length-set}
 use mir.Syntax.{w8}
-use mir.Val.{SFits, ofZ, toZ}
+use mir.Val.{SFits}
 use mir.Facts.{toZ-ofZ}
 use Rattle.closing.proofs.Rounds.{copied-one}
 use Rattle.closing.proofs.copy_of.Statement.{statement}
 use Rattle.closing.proofs.copy_of.Tie as tie
-use Rattle.closing.proofs.copy_of.Reads as reads
-use Rattle.closing.proofs.copy_of.Lts as lts
 
 abbrev Inv-loop : tie.InvT-loop
 Inv-loop values copy₀ i₀ copy i = (i ≤ length values) × (length copy ≡ 512) × ((j : ℕ) → j < i → getD copy j (pos 0) ≡ getD values j (pos 0))

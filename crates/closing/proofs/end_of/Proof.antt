@@ -1,8 +1,8 @@
 use mathlib.Core.Path.{_≡_, ap}
-use Prim.Native.Nat.{ℕ, _-_, _+_, _<_}
+use Prim.Native.Nat.{_-_, _+_, _<_}
 use native.Mathlib.Omega.{arith}
 use borrow.Author.Needs.{needs}
-use lib.IntN.{ℤ, pos}
+use lib.IntN.{pos}
 use lib.ListN.{length, getD}
 use mir.Syntax.{w16}
 use mir.Val.{SFits, ofZ}
@@ -10,8 +10,6 @@ use Rattle.plan.proofs.Signs.{bits-eq}
 use Rattle.closing.proofs.Scan.{Run, run-start, run-next, not-last}
 use Rattle.closing.proofs.end_of.Statement.{statement}
 use Rattle.closing.proofs.end_of.Tie as tie
-use Rattle.closing.proofs.end_of.Reads as reads
-use Rattle.closing.proofs.end_of.Lts as lts
 
 abbrev Inv-loop : tie.InvT-loop
 Inv-loop clauses from at₀ at = Run clauses (λ l. l ≡ pos 0 → ⊥) from at

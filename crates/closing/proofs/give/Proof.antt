@@ -6,10 +6,6 @@ use Rattle.closing.proofs.Literals.{bits-true, bits-false, true-bits, f
 use borrow.Author.Needs.{needs}
 use Rattle.closing.proofs.give.Statement.{statement}
 use Rattle.closing.proofs.give.Tie as tie
-use Rattle.closing.proofs.give.Reads as reads
-use Rattle.closing.proofs.give.Lts as lts
-use Rattle.plan.proofs.put.Reads as put-reads
-use Rattle.plan.proofs.value_of.Reads as value-of-reads
 
 value-of-requires : tie.Need-value-of-requires
 value-of-requires c κs = search needs

@@ -1,12 +1,10 @@
-use mathlib.Core.Path.{_≡_, sym, ap, _∙_}
+use mathlib.Core.Path.{sym, ap, _∙_}
 use Rattle.closing.specs.Atoms.{givenBy}
 use Rattle.plan.specs.Tables.{atomOf}
 use Rattle.closing.proofs.Literals.{on-is, off-fits, off-is}
 use borrow.Author.Needs.{needs}
 use Rattle.closing.proofs.given.Statement.{statement}
 use Rattle.closing.proofs.given.Tie as tie
-use Rattle.closing.proofs.given.Reads as reads
-use Rattle.closing.proofs.given.Lts as lts
 
 cast-literal : tie.Need-cast-literal
 cast-literal c = search needs

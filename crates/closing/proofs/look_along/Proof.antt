@@ -1,8 +1,7 @@
-use mathlib.Core.Path.{_≡_, refl, sym, ap, _∙_, subst}
+use mathlib.Core.Path.{_≡_, sym, ap, _∙_, subst}
 use mathlib.Core.Logic.{⊎-elim}
-use mathlib.Core.Bool.{Bool, true, false}
 use mathlib.Core.List.{List}
-use Prim.Native.Nat.{ℕ, _-_, _+_, _<_, _≤_}
+use Prim.Native.Nat.{ℕ, _-_, _+_, _≤_}
 use native.Mathlib.Omega.{arith}
 use borrow.Author.Needs.{needs}
 use lib.IntN.{ℤ}
@@ -11,15 +10,9 @@ use Rattle.plan.specs.Meaning.{Atom, atom}
 use Rattle.plan.specs.Tables.{atomsOf, atomOf}
 use Rattle.closing.specs.Closed.{stepOf}
 use Rattle.closing.specs.Atoms.{AtomsReady, AtomFits, Told, Looked, ByHops}
-use Rattle.closing.specs.declared.Step.{Step}
 use Rattle.closing.proofs.Sweeping.{still-ready, told-looked, looked-start, looked-clash, looked-set, looked-still}
 use Rattle.closing.proofs.look_along.Statement.{statement}
 use Rattle.closing.proofs.look_along.Tie as tie
-use Rattle.closing.proofs.look_along.Reads as reads
-use Rattle.closing.proofs.look_along.Lts as lts
-use Rattle.closing.proofs.look_at.Reads as look-at-reads
-use Rattle.closing.proofs.told.Reads as told-reads
-use Rattle.plan.proofs.atom_at.Reads as atom-at-reads
 
 abbrev Inv-loop : tie.InvT-loop
 Inv-loop atoms count k source hops over values₀ changed₀ at₀ values changed at = (k ≤ at) × (at ≤ count) × Looked atoms over (ByHops over source hops) values₀ values k at (stepOf changed)

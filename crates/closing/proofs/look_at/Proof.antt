@@ -1,6 +1,5 @@
-use mathlib.Core.Path.{_≡_, refl, sym, ap, _∙_, subst}
+use mathlib.Core.Path.{_≡_, refl, _∙_, subst}
 use mathlib.Core.Logic.{inl, inr}
-use mathlib.Core.List.{List}
 use lib.IntN.{ℤ}
 use lib.ListN.{length}
 use mir.Syntax.{w16}
@@ -13,11 +12,6 @@ use Rattle.closing.proofs.Sweeping.{given-fits, gets-shape, silent, say
 use borrow.Author.Needs.{needs}
 use Rattle.closing.proofs.look_at.Statement.{statement}
 use Rattle.closing.proofs.look_at.Tie as tie
-use Rattle.closing.proofs.look_at.Reads as reads
-use Rattle.closing.proofs.look_at.Lts as lts
-use Rattle.closing.proofs.give.Reads as give-reads
-use Rattle.closing.proofs.given.Reads as given-reads
-use Rattle.walk.proofs.is_true.Reads as is-true-reads
 
 is-true-requires : tie.Need-is-true-requires
 is-true-requires c κs = search needs

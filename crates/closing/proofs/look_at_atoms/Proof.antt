@@ -1,22 +1,15 @@
-use mathlib.Core.Path.{_≡_, sym, subst}
-use mathlib.Core.Bool.{false}
+use mathlib.Core.Path.{sym, subst}
 use mathlib.Core.List.{List}
-use Prim.Native.Nat.{ℕ}
-use native.Mathlib.Omega.{arith}
 use lib.IntN.{ℤ}
 use lib.ListN.{length}
 use Rattle.plan.specs.Tables.{edgesOf}
-use Rattle.walk.specs.Hopping.{Inside, Placed}
-use Rattle.closing.specs.Atoms.{AtomsReady, Looked, ByEdges, AllLooked}
+use Rattle.walk.specs.Hopping.{Placed}
+use Rattle.closing.specs.Atoms.{AtomsReady, AllLooked}
 use Rattle.closing.proofs.Sweeping.{still-ready}
 use Rattle.closing.proofs.Rounds.{seen-clash, seen-set, seen-still}
 use borrow.Author.Needs.{needs}
 use Rattle.closing.proofs.look_at_atoms.Statement.{statement}
 use Rattle.closing.proofs.look_at_atoms.Tie as tie
-use Rattle.closing.proofs.look_at_atoms.Reads as reads
-use Rattle.closing.proofs.look_at_atoms.Lts as lts
-use Rattle.closing.proofs.after_set.Reads as after-set-reads
-use Rattle.closing.proofs.look_at_graph.Reads as look-at-graph-reads
 
 look-at-graph-requires : tie.Need-look-at-graph-requires
 look-at-graph-requires c κs = search needs

@@ -1,17 +1,9 @@
-use mathlib.Core.Path.{_≡_, subst}
-use mathlib.Core.List.{List}
-use Prim.Native.Nat.{ℕ}
-use lib.IntN.{ℤ}
-use Rattle.closing.specs.Atoms.{Given, Looked, BySets, ByEdges}
+use mathlib.Core.Path.{subst}
+use Rattle.closing.specs.Atoms.{Given, BySets, ByEdges}
 use Rattle.closing.proofs.Sweeping.{looked-none, looked-earlier, looked-known, edges-sets}
 use borrow.Author.Needs.{needs}
 use Rattle.closing.proofs.look_at_graph.Statement.{statement}
 use Rattle.closing.proofs.look_at_graph.Tie as tie
-use Rattle.closing.proofs.look_at_graph.Reads as reads
-use Rattle.closing.proofs.look_at_graph.Lts as lts
-use Rattle.closing.proofs.next_to_say.Reads as next-to-say-reads
-use Rattle.closing.proofs.sweep.Reads as sweep-reads
-use Rattle.walk.proofs.neighbours.Reads as neighbours-reads
 
 next-to-say-requires : tie.Need-next-to-say-requires
 next-to-say-requires c κs = search needs

@@ -1,22 +1,13 @@
-use mathlib.Core.Path.{_≡_, sym, ap, _∙_, subst}
+use mathlib.Core.Path.{sym, ap, subst}
 use mathlib.Core.List.{List}
-use Prim.Native.Nat.{ℕ, _<_, _≤_}
+use Prim.Native.Nat.{ℕ, _<_}
 use native.Mathlib.Omega.{arith}
-use lib.IntN.{ℤ}
 use Rattle.plan.specs.Meaning.{Atom, atom}
-use Rattle.plan.specs.Tables.{atomsOf}
-use Rattle.closing.specs.Atoms.{Given, Looked, ByHops, BySets}
+use Rattle.closing.specs.Atoms.{Given, ByHops, BySets}
 use Rattle.closing.proofs.Sweeping.{looked-none, looked-earlier, looked-known, sets-hops}
 use borrow.Author.Needs.{needs}
 use Rattle.closing.proofs.look_on.Statement.{statement}
 use Rattle.closing.proofs.look_on.Tie as tie
-use Rattle.closing.proofs.look_on.Reads as reads
-use Rattle.closing.proofs.look_on.Lts as lts
-use Rattle.closing.proofs.look_along.Reads as look-along-reads
-use Rattle.closing.proofs.next_to_say.Reads as next-to-say-reads
-use Rattle.plan.proofs.atom_at.Reads as atom-at-reads
-use Rattle.plan.proofs.wide.Reads as wide-reads
-use Rattle.walk.proofs.walk.Reads as walk-reads
 
 next-to-say-requires : tie.Need-next-to-say-requires
 next-to-say-requires c κs = search needs

@@ -1,15 +1,13 @@
-use mathlib.Core.Path.{_≡_, refl, sym, ap, _∙_, subst}
-use mathlib.Core.List.{List}
-use Prim.Native.Nat.{ℕ, _-_, _+_, _<_, _≤_}
+use mathlib.Core.Path.{_≡_, sym, ap, _∙_, subst}
+use Prim.Native.Nat.{ℕ, _-_}
 use native.Mathlib.Omega.{arith}
 use borrow.Author.Needs.{needs}
 use lib.IntN.{ℤ}
 use lib.ListN.{length}
-use lib.Dec.{T}
-use mir.Syntax.{w8, w16}
+use mir.Syntax.{w16}
 use mir.Val.{SFits, ofZ, toZ}
 use mir.Facts.{toZ-ofZ}
-use Rattle.plan.specs.Meaning.{Atom, atom, trueIn}
+use Rattle.plan.specs.Meaning.{Atom, atom}
 use Rattle.plan.specs.Ranged.{LiteralFits}
 use Rattle.plan.specs.Tables.{atomsOf, atomOf, literalValue}
 use Rattle.closing.specs.Atoms.{AtomFits, Given, givenBy}
@@ -17,11 +15,6 @@ use Rattle.closing.proofs.Literals.{bits-true}
 use Rattle.closing.proofs.Sweeping.{none-given, one-given, given-fits}
 use Rattle.closing.proofs.next_to_say.Statement.{statement}
 use Rattle.closing.proofs.next_to_say.Tie as tie
-use Rattle.closing.proofs.next_to_say.Reads as reads
-use Rattle.closing.proofs.next_to_say.Lts as lts
-use Rattle.closing.proofs.given.Reads as given-reads
-use Rattle.plan.proofs.atom_at.Reads as atom-at-reads
-use Rattle.plan.proofs.value_of.Reads as value-of-reads
 
 abbrev Inv-loop : tie.InvT-loop
 Inv-loop atoms count k over values at₀ at = Given atoms count over values k at

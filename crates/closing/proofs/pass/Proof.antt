@@ -1,18 +1,14 @@
-use mathlib.Core.Path.{_≡_, sym, _∙_, subst}
+use mathlib.Core.Path.{sym, subst}
 use mathlib.Core.List.{List}
-use Prim.Native.Nat.{ℕ, _-_, _<_, _≤_}
+use Prim.Native.Nat.{_-_}
 use native.Mathlib.Omega.{arith}
 use borrow.Author.Needs.{needs}
 use lib.IntN.{ℤ}
 use lib.ListN.{length}
-use Rattle.closing.specs.Clauses.{Ready, Table, Passed}
+use Rattle.closing.specs.Clauses.{Passed}
 use Rattle.closing.proofs.Passing.{Passing, passing-start, passing-ready, pass-clash, pass-set, pass-still, pass-ends}
 use Rattle.closing.proofs.pass.Statement.{statement}
 use Rattle.closing.proofs.pass.Tie as tie
-use Rattle.closing.proofs.pass.Reads as reads
-use Rattle.closing.proofs.pass.Lts as lts
-use Rattle.closing.proofs.apply.Reads as apply-reads
-use Rattle.closing.proofs.told.Reads as told-reads
 
 abbrev Inv-loop : tie.InvT-loop
 Inv-loop clauses values₀ changed₀ at₀ values changed at = Passing clauses values₀ values changed at

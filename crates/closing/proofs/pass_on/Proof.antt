@@ -3,21 +3,14 @@ use mathlib.Core.Bool.{Bool, true, false}
 use mathlib.Core.List.{List}
 use native.Mathlib.Omega.{arith}
 use lib.IntN.{ℤ}
-use lib.ListN.{length}
-use Rattle.plan.specs.Meaning.{trueIn}
-use Rattle.plan.specs.Tables.{edgesOf, clausesOf}
+use Rattle.plan.specs.Tables.{edgesOf}
 use Rattle.walk.specs.Hopping.{Placed}
-use Rattle.closing.specs.Clauses.{Ends, AllQuiet}
+use Rattle.closing.specs.Clauses.{Ends}
 use Rattle.closing.specs.Rounds.{Unchanged}
 use Rattle.closing.proofs.Rounds.{same-copy}
 use borrow.Author.Needs.{needs}
 use Rattle.closing.proofs.pass_on.Statement.{statement}
 use Rattle.closing.proofs.pass_on.Tie as tie
-use Rattle.closing.proofs.pass_on.Reads as reads
-use Rattle.closing.proofs.pass_on.Lts as lts
-use Rattle.closing.proofs.copy_of.Reads as copy-of-reads
-use Rattle.closing.proofs.propagate.Reads as propagate-reads
-use Rattle.closing.proofs.same_edges.Reads as same-edges-reads
 
 copy-of-requires : tie.Need-copy-of-requires
 copy-of-requires c κs = search needs

@@ -6,9 +6,6 @@ use Rattle.closing.specs.Clauses.{ClauseClash}
 use Rattle.closing.proofs.Passing.{Kept, kept-start, kept-ready, kept-then, kept-clash, kept-still, tells-fewer}
 use Rattle.closing.proofs.propagate.Statement.{statement}
 use Rattle.closing.proofs.propagate.Tie as tie
-use Rattle.closing.proofs.propagate.Reads as reads
-use Rattle.closing.proofs.propagate.Lts as lts
-use Rattle.closing.proofs.pass.Reads as pass-reads
 
 abbrev Inv-loop : tie.InvT-loop
 Inv-loop clauses values₀ values = Kept clauses values₀ values

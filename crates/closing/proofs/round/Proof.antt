@@ -1,18 +1,12 @@
-use mathlib.Core.Path.{_≡_, sym, _∙_}
+use mathlib.Core.Path.{sym, _∙_}
 use mathlib.Core.List.{List}
 use lib.IntN.{ℤ}
-use lib.ListN.{length}
 use Rattle.plan.specs.Search.{Assigned}
-use Rattle.plan.specs.Tables.{planOf, Lent}
 use Rattle.closing.proofs.Lending.{lent-inside, lent-placed, lent-ready, lent-atoms}
 use Rattle.closing.proofs.Rounds.{shape-after, round-clash, round-still, round-set}
 use borrow.Author.Needs.{needs}
 use Rattle.closing.proofs.round.Statement.{statement}
 use Rattle.closing.proofs.round.Tie as tie
-use Rattle.closing.proofs.round.Reads as reads
-use Rattle.closing.proofs.round.Lts as lts
-use Rattle.closing.proofs.look_at_atoms.Reads as look-at-atoms-reads
-use Rattle.closing.proofs.pass_on.Reads as pass-on-reads
 
 look-at-atoms-requires : tie.Need-look-at-atoms-requires
 look-at-atoms-requires c κs =

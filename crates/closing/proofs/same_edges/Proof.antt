@@ -1,14 +1,13 @@
 use mathlib.Core.Path.{_≡_, sym, ap, _∙_}
-use mathlib.Core.List.{List}
-use Prim.Native.Nat.{ℕ, _-_, _+_, _*_, _<_, _≤_}
+use Prim.Native.Nat.{ℕ, _-_, _≤_}
 use native.Mathlib.Omega.{arith}
 use borrow.Author.Needs.{needs}
-use lib.IntN.{ℤ, pos}
+use lib.IntN.{pos}
 use lib.ListN.{length, getD}
 use mir.Syntax.{w8}
-use mir.Val.{SFits, ofZ, toZ}
-use Rattle.plan.specs.Meaning.{Edge, edge, value}
-use Rattle.plan.specs.Tables.{edgesOf, edgeOf}
+use mir.Val.{SFits}
+use Rattle.plan.specs.Meaning.{Edge, edge}
+use Rattle.plan.specs.Tables.{edgesOf}
 use Rattle.plan.proofs.Signs.{bits-same}
 use Rattle.plan.proofs.Values.{value-at}
 use Rattle.plan.proofs.Walks.{mem-at}
@@ -16,10 +15,6 @@ use Rattle.walk.proofs.Filling.{within-listed}
 use Rattle.closing.proofs.Rounds.{SameUpTo, same-one, same-all}
 use Rattle.closing.proofs.same_edges.Statement.{statement}
 use Rattle.closing.proofs.same_edges.Tie as tie
-use Rattle.closing.proofs.same_edges.Reads as reads
-use Rattle.closing.proofs.same_edges.Lts as lts
-use Rattle.plan.proofs.edge_at.Reads as edge-at-reads
-use Rattle.plan.proofs.wide.Reads as wide-reads
 
 abbrev Inv-loop : tie.InvT-loop
 Inv-loop edges before values count k₀ k = (k ≤ count) × SameUpTo edges before values k

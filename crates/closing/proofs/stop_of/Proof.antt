@@ -1,4 +1,4 @@
-use mathlib.Core.Path.{_≡_, ap, _∙_, subst}
+use mathlib.Core.Path.{_≡_, subst}
 use mathlib.Core.Bool.{Bool, true, false}
 use mathlib.Core.List.{List}
 use Prim.Native.Nat.{ℕ, _-_, _+_, _<_}
@@ -13,9 +13,6 @@ use Rattle.closing.specs.Clauses.{Stops, Stop}
 use Rattle.closing.proofs.Scan.{Run, run-start, run-next, not-last}
 use Rattle.closing.proofs.stop_of.Statement.{statement}
 use Rattle.closing.proofs.stop_of.Tie as tie
-use Rattle.closing.proofs.stop_of.Reads as reads
-use Rattle.closing.proofs.stop_of.Lts as lts
-use Rattle.closing.proofs.stops.Reads as stops-reads
 
 abbrev Inv-loop : tie.InvT-loop
 Inv-loop clauses from passed values at₀ at = Run clauses (λ l. Stops values l (toZ w16 passed) false) from at

@@ -10,9 +10,6 @@ use Rattle.plan.proofs.Signs.{bits-eq, bits-same}
 use Rattle.closing.proofs.Scan.{stops-by-value}
 use Rattle.closing.proofs.stops.Statement.{statement}
 use Rattle.closing.proofs.stops.Tie as tie
-use Rattle.closing.proofs.stops.Reads as reads
-use Rattle.closing.proofs.stops.Lts as lts
-use Rattle.plan.proofs.value_of.Reads as value-of-reads
 
 returns : tie.Need-returns
 returns c = inl (bits-eq w16 _ 0 (c .before .fits .literal) (c .if1 .taken))

@@ -1,19 +1,14 @@
 use mathlib.Core.Path.{_≡_, sym, subst}
-use mathlib.Core.Bool.{Bool}
 use mathlib.Core.List.{List}
-use Prim.Native.Nat.{ℕ, _-_, _<_, _≤_}
+use Prim.Native.Nat.{_-_, _≤_}
 use native.Mathlib.Omega.{arith}
 use borrow.Author.Needs.{needs}
 use lib.IntN.{ℤ}
 use Rattle.closing.specs.Closed.{stepOf}
-use Rattle.closing.specs.Atoms.{AtomsReady, Looked, BySets}
+use Rattle.closing.specs.Atoms.{Looked, BySets}
 use Rattle.closing.proofs.Sweeping.{still-ready, looked-start, clash-anywhere, looked-clash, looked-set, looked-still}
 use Rattle.closing.proofs.sweep.Statement.{statement}
 use Rattle.closing.proofs.sweep.Tie as tie
-use Rattle.closing.proofs.sweep.Reads as reads
-use Rattle.closing.proofs.sweep.Lts as lts
-use Rattle.closing.proofs.look_on.Reads as look-on-reads
-use Rattle.closing.proofs.told.Reads as told-reads
 
 abbrev Inv-loop : tie.InvT-loop
 Inv-loop atoms count k sets over values₀ changed₀ at₀ values changed at = (at ≤ count) × Looked atoms over (BySets over sets) values₀ values k at (stepOf changed)

@@ -1,23 +1,22 @@
-use mathlib.Core.Path.{_≡_, refl, sym, ap, _∙_, subst}
-use mathlib.Core.Bool.{Bool, true, false}
+use mathlib.Core.Path.{_≡_, sym, ap, _∙_, subst}
+use mathlib.Core.Bool.{false}
 use mathlib.Core.List.{List}
 use mathlib.Core.Logic.{⊎-elim}
 use Prim.Native.Nat.{ℕ, suc, _+_, _<_, _≤_}
 use native.Mathlib.Numerals.{add-one}
 use native.Mathlib.Omega.{arith}
-use lib.IntN.{ℤ, pos, negℤ, natAbs, _-ℤ_}
+use lib.IntN.{ℤ, pos, _-ℤ_}
 use lib.ListN.{length, take}
 use mir.Syntax.{w16}
-use mir.Val.{SFits, ofZ, toZ}
+use mir.Val.{ofZ, toZ}
 use borrow.Author.Needs.{needs}
-use Rattle.plan.specs.Meaning.{PlanFile, on, off, add, trueIn}
-use Rattle.plan.specs.Ranged.{LiteralFits}
+use Rattle.plan.specs.Meaning.{PlanFile, on, off, add}
 use Rattle.plan.specs.Search.{Assigned, opens, Closes, Lowest}
 use Rattle.plan.specs.Tables.{planOf, Lent}
 use Rattle.plan.proofs.Exists.{natAbs-off}
 use Rattle.plan.proofs.Search.{off-shape, on-shape, low-n}
 use Rattle.closing.proofs.Literals.{on-is, off-is, off-fits}
-use Rattle.search.specs.Report.{Reported, Begins, Filled}
+use Rattle.search.specs.Report.{Reported, Filled}
 use Rattle.search.specs.declared.Verdict.the-variants.{Impossible}
 use Rattle.search.proofs.Firsts.{take-add, filled-closed, first-lowest, first-full, filled-off, filled-on, fewer-off, fewer-on, fewer-closed}
 use Rattle.search.proofs.Parts.{closed-clash, closed-set, report-clash, report-plan, report-from, stop-here, off-side, on-side}
@@ -140,29 +139,29 @@ branch-returns : (t : ℕ) → branch-lts.Need-returns (
 ) (branch-at t) branch.Post
 branch-returns t c = λ b k. let d = c .before .before .before in stop-here (whole t d) (lent t d .ranged) b (set t d) (place t d) k (low t d) (d .args .budget) (d .args .count) (set t d) (c .if1 .taken)
 
-branch-add-literal : (t : ℕ) → branch-lts.Need-add-literal (
+branch-add-on : (t : ℕ) → branch-lts.Need-add-on (
   with-reads.Asked,
   with-reads.Learnt,
   settle-below t,
   settle.Post,
 ) (branch-at t) branch.Post
-branch-add-literal t c = let h = small t (c .before .before .before) in search needs
+branch-add-on t c = let h = small t (c .before .before .before) in search needs
 
-branch-cast-literal : (t : ℕ) → branch-lts.Need-cast-literal (
+branch-cast-on : (t : ℕ) → branch-lts.Need-cast-on (
   with-reads.Asked,
   with-reads.Learnt,
   settle-below t,
   settle.Post,
 ) (branch-at t) branch.Post
-branch-cast-literal t c = let h = small t (c .before .before .before) in record { sfits = omega arith }
+branch-cast-on t c = let h = small t (c .before .before .before) in record { sfits = omega arith }
 
-branch-sub-with : (t : ℕ) → branch-lts.Need-sub-with (
+branch-sub-off : (t : ℕ) → branch-lts.Need-sub-off (
   with-reads.Asked,
   with-reads.Learnt,
   settle-below t,
   settle.Post,
 ) (branch-at t) branch.Post
-branch-sub-with t c = off-fits _ (small t (c .before .before .before))
+branch-sub-off t c = off-fits _ (small t (c .before .before .before))
 
 branch-with-requires : (t : ℕ) → branch-lts.Need-with-requires (
   with-reads.Asked,
@@ -457,9 +456,9 @@ pub +branch+settle-spec : {M : Type 1} → statement M
     (branch-at t)
     branch.Post
     (branch-returns t)
-    (branch-add-literal t)
-    (branch-cast-literal t)
-    (branch-sub-with t)
+    (branch-add-on t)
+    (branch-cast-on t)
+    (branch-sub-off t)
     (branch-with-requires t)
     (branch-add-settle t)
     (branch-add-settle-2 t)

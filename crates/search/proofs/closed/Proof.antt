@@ -1,5 +1,5 @@
-use mathlib.Core.Path.{_≡_, sym, ap, _∙_, subst}
-use Prim.Native.Nat.{ℕ, _≤_}
+use mathlib.Core.Path.{_≡_, sym, ap, subst}
+use Prim.Native.Nat.{_≤_}
 use native.Mathlib.Omega.{arith}
 use borrow.Author.Needs.{needs}
 use lib.ListN.{length, take, drop}
@@ -9,10 +9,6 @@ use Rattle.plan.specs.Tables.{planOf}
 use Rattle.closing.specs.Closed.{closedOf}
 use Rattle.search.proofs.closed.Statement.{statement}
 use Rattle.search.proofs.closed.Tie as tie
-use Rattle.search.proofs.closed.Reads as reads
-use Rattle.search.proofs.closed.Lts as lts
-use Rattle.closing.proofs.close.Reads as close-reads
-use Rattle.plan.proofs.wide.Reads as wide-reads
 
 wide-requires : tie.Need-wide-requires
 wide-requires c κs = search needs

@@ -1,8 +1,8 @@
-use mathlib.Core.Path.{_≡_, ap}
-use Prim.Native.Nat.{ℕ, _-_, _+_, _<_, _≤_}
+use mathlib.Core.Path.{ap}
+use Prim.Native.Nat.{_-_}
 use native.Mathlib.Omega.{arith}
 use borrow.Author.Needs.{needs}
-use lib.IntN.{ℤ, pos}
+use lib.IntN.{pos}
 use lib.ListN.{length, getD}
 use mir.Syntax.{w8}
 use mir.Val.{SFits, ofZ}
@@ -10,8 +10,6 @@ use Rattle.plan.proofs.Signs.{bits-eq}
 use Rattle.search.proofs.Firsts.{Passed, passed-none, passed-one}
 use Rattle.search.proofs.lowest_open.Statement.{statement}
 use Rattle.search.proofs.lowest_open.Tie as tie
-use Rattle.search.proofs.lowest_open.Reads as reads
-use Rattle.search.proofs.lowest_open.Lts as lts
 
 abbrev Inv-loop : tie.InvT-loop
 Inv-loop values from at₀ at = Passed values from at

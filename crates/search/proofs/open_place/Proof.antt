@@ -1,5 +1,5 @@
-use mathlib.Core.Path.{_≡_, sym, ap, _∙_, subst}
-use Prim.Native.Nat.{ℕ, _≤_}
+use mathlib.Core.Path.{_≡_, sym, subst}
+use Prim.Native.Nat.{_≤_}
 use native.Mathlib.Omega.{arith}
 use borrow.Author.Needs.{needs}
 use lib.ListN.{length, take}
@@ -7,10 +7,6 @@ use lib.Seq.{length-take-le}
 use Rattle.search.specs.Report.{FirstOpen}
 use Rattle.search.proofs.open_place.Statement.{statement}
 use Rattle.search.proofs.open_place.Tie as tie
-use Rattle.search.proofs.open_place.Reads as reads
-use Rattle.search.proofs.open_place.Lts as lts
-use Rattle.plan.proofs.wide.Reads as wide-reads
-use Rattle.search.proofs.lowest_open.Reads as lowest-open-reads
 
 wide-requires : tie.Need-wide-requires
 wide-requires c κs = search needs

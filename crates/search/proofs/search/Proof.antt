@@ -1,10 +1,9 @@
-use mathlib.Core.Path.{_≡_, refl, sym, ap, _∙_, subst}
-use mathlib.Core.List.{List}
-use Prim.Native.Nat.{ℕ, _≤_}
+use mathlib.Core.Path.{_≡_, refl, sym, subst}
+use Prim.Native.Nat.{ℕ}
 use native.Mathlib.Omega.{arith}
 use borrow.Author.Needs.{needs}
-use lib.IntN.{ℤ, pos}
-use lib.ListN.{length, take, replicate}
+use lib.IntN.{pos}
+use lib.ListN.{take, replicate}
 use Rattle.plan.specs.Meaning.{PlanFile}
 use Rattle.plan.specs.Search.{Assigned}
 use Rattle.plan.specs.Tables.{planOf}
@@ -12,11 +11,6 @@ use Rattle.search.proofs.Firsts.{all-open-is, all-open-shape}
 use Rattle.search.proofs.Parts.{whole-plan, whole-impossible, whole-undecided}
 use Rattle.search.proofs.search.Statement.{statement}
 use Rattle.search.proofs.search.Tie as tie
-use Rattle.search.proofs.search.Reads as reads
-use Rattle.search.proofs.search.Lts as lts
-use Rattle.plan.proofs.Assignment.all_open.Reads as all-open-reads
-use Rattle.search.proofs.settle.Reads as settle-reads
-use Rattle.search.proofs.write.Reads as write-reads
 
 all-open-requires : tie.Need-all-open-requires
 all-open-requires c κs = search needs

@@ -1,15 +1,11 @@
-use mathlib.Core.Path.{_≡_, sym, ap, _∙_, subst}
-use Prim.Native.Nat.{ℕ, _≤_}
+use mathlib.Core.Path.{_≡_, sym, ap, _∙_}
+use Prim.Native.Nat.{_≤_}
 use native.Mathlib.Omega.{arith}
 use borrow.Author.Needs.{needs}
 use lib.ListN.{length, take}
 use lib.Seq.{length-take-le}
 use Rattle.search.proofs.write.Statement.{statement}
 use Rattle.search.proofs.write.Tie as tie
-use Rattle.search.proofs.write.Reads as reads
-use Rattle.search.proofs.write.Lts as lts
-use Rattle.plan.proofs.wide.Reads as wide-reads
-use Rattle.search.proofs.copy.Reads as copy-reads
 
 wide-requires : tie.Need-wide-requires
 wide-requires c κs = search needs
@@ -26,10 +22,10 @@ module _ (c : tie.After-wide) where
       omega (arith, c .wide .ensures)
 
 array-share-prefix-values : tie.Need-array-share-prefix-values
-array-share-prefix-values c = inside c
+array-share-prefix-values c = inside (c .before)
 
 slice-aggregate-copy : tie.Need-slice-aggregate-copy
-slice-aggregate-copy c = sym (length-take-le _ _ (inside (c .before)))
+slice-aggregate-copy c = sym (length-take-le _ _ (inside (c .before .before)))
 
 copy-requires : tie.Need-copy-requires
 copy-requires c κs =
