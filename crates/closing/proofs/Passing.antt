@@ -44,10 +44,8 @@ passing-start cs v s = record {
   progress = (refl, λ q. q);
 }
 
-pub passing-ready : (cs v₀ v : List ℤ) (changed : Bool) (at : ℕ) → Ready cs v₀ → Passing cs v₀ v changed at → Ready cs v
-passing-ready cs v₀ v changed at r s =
-    let e = s .shape .long in
-    record { shape = sized (s .shape); small = omega (arith, r .small); table = subst (λ n. Table n cs) (sym e) (r .table) }
+pub ready-kept : (cs v₀ v : List ℤ) → Ready cs v₀ → Assigned (length v₀) v → Ready cs v
+ready-kept cs v₀ v r s = record { shape = sized s; small = omega (arith, r .small, s .long); table = subst (λ n. Table n cs) (sym (s .long)) (r .table) }
 
 fewer : (cs v₀ v : List ℤ) (changed : Bool) (at : ℕ) → Progress cs v₀ v changed at → opens v ≤ opens v₀
 fewer cs v₀ v true at p = omega arith
@@ -131,11 +129,6 @@ pub record Kept (cs v₀ v : List ℤ) : Type 0 where
 
 pub kept-start : (cs v : List ℤ) → Assigned (length v) v → Kept cs v v
 kept-start cs v s = record { shape = s; onward = λ φ h. onward-none φ v (shape-of φ h v s) }
-
-pub kept-ready : (cs v₀ v : List ℤ) → Ready cs v₀ → Kept cs v₀ v → Ready cs v
-kept-ready cs v₀ v r k =
-    let e = k .shape .long in
-    record { shape = sized (k .shape); small = omega (arith, r .small); table = subst (λ n. Table n cs) (sym e) (r .table) }
 
 module _ (cs v₀ v w : List ℤ) (k : Kept cs v₀ v) where
   size-is : (φ : PlanFile) → HasClauses (length v₀) cs φ → HasClauses (length v) cs φ

@@ -4,14 +4,14 @@ use mathlib.Core.Path.{_≡_, refl, sym, ap, _∙_, subst}
 use mathlib.Core.Logic.{_⊎_, inl, inr, ⊎-elim}
 use mathlib.Core.Bool.{Bool, true, false, not, _&&_, _||_, and-eq-true-iff, false≢true}
 use mathlib.Core.List.{List, [], _∷_, _++_, List·Memᴰ, List·Memᴰ·not-nil, List·Memᴰ·cases-cons, List·Memᴰ·append-cases, List·Memᴰ·eq-of-singleton}
-use Prim.Native.Nat.{ℕ, zero, suc, _+_, _-_, _*_, _/_, _<_, _≤_}
+use Prim.Native.Nat.{ℕ, zero, suc, _+_, _*_, _/_, _<_, _≤_}
 use native.Mathlib.Omega.{arith}
 use borrow.Author.Tests.{ltb-true, leb-true, eqb-true, eq-eqb, not-true}
 use lib.Dec.{ltb, leb, eqb}
 use lib.IntN.{ℤ, natAbs}
-use lib.ListN.{length, getD}
+use lib.ListN.{length}
 use Rattle.plan.specs.Meaning.{Edge, Atom, PlanFile}
-use Rattle.reader.specs.Format.{Step, refuse, next, done, Reading, refused, accepted, check, pick, onward, word, tagAt, lenAt, after, fits, headOk, endsOk, kindOk, literalOk, literalsOk, literalsIn, clauseLen, edgeUses, atomUses, edgeIn, atomIn, clauseIn, addEdge, addAtom, addClause, emptyPlan, edgeAt, atomAt, clauseAt, endAt, tagged, stepAt, headAt, records, readPlan}
+use Rattle.reader.specs.Format.{Step, refuse, next, done, Reading, refused, accepted, check, pick, onward, word, tagAt, lenAt, fits, headOk, endsOk, kindOk, edgeOk, atomOk, literalOk, literalsOk, clauseLen, edgeUses, atomUses, edgeIn, atomIn, clauseIn, addEdge, addAtom, addClause, emptyPlan, edgeAt, atomAt, clauseAt, endAt, stepAt, headAt, records, readPlan}
 use Rattle.plan.specs.Ranged.{maxBound, literals, EndsFit, LiteralFits, Ranged}
 use Rattle.reader.proofs.Rows.{count-clause, length-snoc, literals-length}
 
@@ -81,7 +81,8 @@ snoc : {A : Type 0} (P : A → Type 0) (xs : List A) (x : A) → ((a : A) → Li
 snoc P xs x all one a m = ⊎-elim (λ n. all a n) (λ n. subst P (sym (List·Memᴰ·eq-of-singleton n)) one) (List·Memᴰ·append-cases xs m)
 
 module _ (p : PlanFile) (r : Ranged p) where
-  with-edge : (e : Edge) → endsOk (p .nodes) (p .variables) (e .from) (e .to) (e .variable) ≡ true → length (p .edges) < 256 → atomUses (p .atoms) (e .variable) ≡ false → Ranged (addEdge p e)
+  with-edge : (e : Edge) → endsOk (p .nodes) (p .variables) (e .from) (e .to) (e .variable) ≡ true → length (p .edges) < 256
+      → atomUses (p .atoms) (e .variable) ≡ false → Ranged (addEdge p e)
   with-edge e ok room free = record {
     node = r .node;
     nodes = r .nodes;
@@ -96,10 +97,12 @@ module _ (p : PlanFile) (r : Ranged p) where
     kind = r .kind;
     clause = r .clause;
     literal = r .literal;
-    apart = snoc (λ (x : Edge). (a : Atom) → List·Memᴰ a (p .atoms) → x .variable ≡ a .variable → ⊥) (p .edges) e (r .apart) (λ a m q. no-atom (p .atoms) (e .variable) free a m (sym q));
+    apart = snoc (λ (x : Edge). (a : Atom) → List·Memᴰ a (p .atoms) → x .variable ≡ a .variable → ⊥) (p .edges) e (r .apart)
+        (λ a m q. no-atom (p .atoms) (e .variable) free a m (sym q));
   }
 
-  with-atom : (a : Atom) → (kindOk (a .kind) (a .bound) && endsOk (p .nodes) (p .variables) (a .from) (a .to) (a .variable)) ≡ true → length (p .atoms) < 64 → edgeUses (p .edges) (a .variable) ≡ false → Ranged (addAtom p a)
+  with-atom : (a : Atom) → (kindOk (a .kind) (a .bound) && endsOk (p .nodes) (p .variables) (a .from) (a .to) (a .variable)) ≡ true
+      → length (p .atoms) < 64 → edgeUses (p .edges) (a .variable) ≡ false → Ranged (addAtom p a)
   with-atom a ok room free =
       let d = both (kindOk (a .kind) (a .bound)) (endsOk (p .nodes) (p .variables) (a .from) (a .to) (a .variable)) ok in
       record {
@@ -113,13 +116,15 @@ module _ (p : PlanFile) (r : Ranged p) where
         literals = r .literals;
         edge = r .edge;
         atom = snoc (λ (x : Atom). EndsFit (p .nodes) (p .variables) (x .from) (x .to) (x .variable)) (p .atoms) a (r .atom) (ends-fit _ _ _ _ _ (d .1));
-        kind = snoc (λ (x : Atom). ((x .kind ≡ 1) × (x .bound ≡ 0)) ⊎ ((x .kind ≡ 2) × (x .bound ≤ 255))) (p .atoms) a (r .kind) (kind-fits (a .kind) (a .bound) (d .0));
+        kind = snoc (λ (x : Atom). ((x .kind ≡ 1) × (x .bound ≡ 0)) ⊎ ((x .kind ≡ 2) × (x .bound ≤ 255))) (p .atoms) a (r .kind)
+            (kind-fits (a .kind) (a .bound) (d .0));
         clause = r .clause;
         literal = r .literal;
         apart = λ e m. snoc (λ (x : Atom). e .variable ≡ x .variable → ⊥) (p .atoms) a (r .apart e m) (no-edge (p .edges) (a .variable) free e m);
       }
 
-  with-clause : (c : List ℤ) → 1 ≤ length c → literalsOk (p .variables) c ≡ true → length (p .clauses) < 1024 → literals (p .clauses) + length c ≤ 4096 → Ranged (addClause p c)
+  with-clause : (c : List ℤ) → 1 ≤ length c → literalsOk (p .variables) c ≡ true → length (p .clauses) < 1024
+      → literals (p .clauses) + length c ≤ 4096 → Ranged (addClause p c)
   with-clause c one ok room most = record {
     node = r .node;
     nodes = r .nodes;
@@ -160,14 +165,14 @@ module _ (f : List ℕ) (at : ℕ) (p : PlanFile) (r : Ranged p) where
   edge-good : Good (edgeAt f at p)
   unfolding Good edgeAt
   edge-good =
-      if-held (eqb (lenAt f at) 6) _ _ _ (λ l. if-held (endsOk (p .nodes) (p .variables) (word f (at + 3)) (word f (at + 5)) (word f (at + 7))) _ _ _ (λ ok.
+      if-held (eqb (lenAt f at) 6) _ _ _ (λ l. if-held (edgeOk (p .nodes) (p .variables) (edgeIn f at)) _ _ _ (λ ok.
       if-held (ltb (length (p .edges)) 256) _ _ _ (λ room. if-held (not (atomUses (p .atoms) (word f (at + 7)))) _ _ _ (λ free.
       with-edge p r (edgeIn f at) ok (ltb-true (length (p .edges)) 256 room) (not-true _ free)))))
 
   atom-good : Good (atomAt f at p)
   unfolding Good atomAt
   atom-good =
-      if-held (eqb (lenAt f at) 9) _ _ _ (λ l. if-held (kindOk (getD f (at + 3) 0) (word f (at + 8)) && endsOk (p .nodes) (p .variables) (word f (at + 4)) (word f (at + 6)) (word f (at + 10))) _ _ _ (λ ok.
+      if-held (eqb (lenAt f at) 9) _ _ _ (λ l. if-held (atomOk (p .nodes) (p .variables) (atomIn f at)) _ _ _ (λ ok.
       if-held (ltb (length (p .atoms)) 64) _ _ _ (λ room. if-held (not (edgeUses (p .edges) (word f (at + 10)))) _ _ _ (λ free.
       with-atom p r (atomIn f at) ok (ltb-true (length (p .atoms)) 64 room) (not-true _ free)))))
 

@@ -1,11 +1,11 @@
 -- 16-bit words as signed numbers.
 -- Assumes nothing.
-use mathlib.Core.Path.{_≡_, refl, sym, ap, _∙_}
+use mathlib.Core.Path.{_≡_, refl, ap, _∙_}
 use mathlib.Core.Bool.{Bool, true, false, _&&_, _||_, or-false}
 use Prim.Native.Nat.{ℕ, zero, suc, _+_, _-_, _<_, _≤_}
 use native.Mathlib.Omega.{arith}
 use lib.Dec.{ltb, leb, eqb}
-use lib.IntN.{ℤ, pos, negsuc, natAbs, _-ℤ_}
+use lib.IntN.{pos, negsuc, natAbs, _-ℤ_}
 use mir.Syntax.{w16}
 use mir.Val.{SFits, ofZ, toZ}
 use mir.Facts.{toZ-ofZ}
@@ -45,7 +45,9 @@ suc-leb k n false e = lt-leb (suc k) n (omega (arith, ltb-false k n e))
 
 high-abs : (variables x : ℕ) → 32768 ≤ x → literalOk variables (twos x) ≡ leb (suc (65535 - x)) variables
 unfolding literalOk
-high-abs variables x h = ap (λ l. leb 1 (natAbs l) && leb (natAbs l) variables) (twos-high x h) ∙ ap (λ (b : Bool). b && leb (suc (65535 - x)) variables) (le-leb 1 (suc (65535 - x)) (omega arith))
+high-abs variables x h =
+    ap (λ l. leb 1 (natAbs l) && leb (natAbs l) variables) (twos-high x h)
+    ∙ ap (λ (b : Bool). b && leb (suc (65535 - x)) variables) (le-leb 1 (suc (65535 - x)) (omega arith))
 
 pub high-ok : (variables x : ℕ) → 32768 ≤ x → literalOk variables (twos x) ≡ ltb (65535 - x) variables
 high-ok variables x h = high-abs variables x h ∙ suc-leb (65535 - x) variables (ltb (65535 - x) variables) refl

@@ -1,22 +1,21 @@
 -- The definition needs no count of turns, and no second answer fits the reader's contract.
 -- Assumes nothing.
 use mathlib.Core.Path.{_≡_, refl, sym, ap, _∙_, subst}
-use mathlib.Core.Bool.{Bool, true, false, not, _&&_, and-eq-true-iff}
+use mathlib.Core.Bool.{Bool, true, false, not, _&&_}
 use mathlib.Core.List.{List}
 use Prim.Native.Nat.{ℕ, zero, suc, _+_, _*_, _/_, _<_, _≤_}
 use native.Mathlib.Omega.{arith}
-use borrow.Author.Tests.{leb-true, eqb-true}
+use borrow.Author.Tests.{eqb-true}
 use lib.Dec.{ltb, leb, eqb}
 use lib.IntN.{ℤ}
-use lib.ListN.{length, take, getD}
+use lib.ListN.{length, take}
 use Rattle.plan.specs.Meaning.{PlanFile}
-use Rattle.reader.specs.Format.{Step, refuse, next, done, Reading, refused, accepted, check, pick, onward, word, tagAt, lenAt, after, fits, headOk, endsOk, kindOk, literalsOk, clauseLen, clauseIn, edgeUses, atomUses, edgeAt, atomAt, clauseAt, endAt, stepAt, headAt, records, readPlan}
-use Rattle.plan.specs.Refusals.{numberOf, valueOf}
+use Rattle.reader.specs.Format.{Step, refuse, next, done, Reading, refused, accepted, check, pick, inOrder, onward, word, tagAt, lenAt, after, fits, headOk, edgeOk, atomOk, literalsOk, clauseLen, edgeIn, atomIn, clauseIn, edgeUses, atomUses, edgeAt, atomAt, clauseAt, endAt, stepAt, headAt, records, readPlan}
 use Rattle.reader.specs.Filling.{Tables, Room, Answers}
 use Rattle.plan.specs.Ranged.{maxNodes, maxVariables, maxEdges, maxAtoms, maxClauses, maxLiterals, Ranged, literals}
 use Rattle.plan.proofs.Refusals.{one-refusal}
 use Rattle.reader.proofs.Accepts.{read-ranged}
-use Rattle.plan.specs.declared.Refusal.{Refusal}
+use Rattle.reader.proofs.Steps.{fits-is}
 use Rattle.plan.specs.declared.Plan as counted
 use Rattle.reader.specs.declared.ReadAnswer.{ReadAnswer}
 use Rattle.reader.specs.declared.ReadAnswer.the-variants.{Accepted, Refused}
@@ -32,13 +31,13 @@ unfolding Ahead
 if-ahead f at true n v s g = g refl
 if-ahead f at false n v s g = tt
 
+order-ahead : (f : List ℕ) (at : ℕ) (long ranged room apart : Bool) (v : ℕ) (s : Step) → Ahead f at s → Ahead f at (inOrder long ranged room apart v s)
+order-ahead f at long ranged room apart v s g =
+    if-ahead f at long _ _ _ (λ a. if-ahead f at ranged _ _ _ (λ b. if-ahead f at room _ _ _ (λ c. if-ahead f at apart _ _ _ (λ d. g))))
+
 one-ahead : (f : List ℕ) (at : ℕ) (b : Bool) (s u : Step) → Ahead f at s → Ahead f at u → Ahead f at (pick b s u)
 one-ahead f at true s u g h = g
 one-ahead f at false s u g h = h
-
-fits-is : (f : List ℕ) (at : ℕ) → fits f at ≡ true → after f at ≤ length f
-unfolding fits
-fits-is f at h = leb-true _ _ (and-eq-true-iff (leb (at + 3) (length f)) (leb (after f at) (length f)) .0 h .1)
 
 next-ahead : (f : List ℕ) (at b : ℕ) (p : PlanFile) → at < b → b ≤ length f → Ahead f at (next b p)
 unfolding Ahead
@@ -58,15 +57,21 @@ module _ (f : List ℕ) (at : ℕ) (p : PlanFile) (h : after f at ≤ length f) 
 
   edge-ahead : Ahead f at (edgeAt f at p)
   unfolding edgeAt
-  edge-ahead = if-ahead f at (eqb (lenAt f at) 6) _ _ _ (λ a. if-ahead f at (endsOk (p .nodes) (p .variables) (word f (at + 3)) (word f (at + 5)) (word f (at + 7))) _ _ _ (λ b. if-ahead f at (ltb (length (p .edges)) 256) _ _ _ (λ c. if-ahead f at (not (atomUses (p .atoms) (word f (at + 7)))) _ _ _ (λ d. next-ahead f at _ _ more h))))
+  edge-ahead =
+      order-ahead f at (eqb (lenAt f at) 6) (edgeOk (p .nodes) (p .variables) (edgeIn f at)) (ltb (length (p .edges)) 256)
+      (not (atomUses (p .atoms) (word f (at + 7)))) _ _ (next-ahead f at _ _ more h)
 
   atom-ahead : Ahead f at (atomAt f at p)
   unfolding atomAt
-  atom-ahead = if-ahead f at (eqb (lenAt f at) 9) _ _ _ (λ a. if-ahead f at (kindOk (getD f (at + 3) 0) (word f (at + 8)) && endsOk (p .nodes) (p .variables) (word f (at + 4)) (word f (at + 6)) (word f (at + 10))) _ _ _ (λ b. if-ahead f at (ltb (length (p .atoms)) 64) _ _ _ (λ c. if-ahead f at (not (edgeUses (p .edges) (word f (at + 10)))) _ _ _ (λ d. next-ahead f at _ _ more h))))
+  atom-ahead =
+      order-ahead f at (eqb (lenAt f at) 9) (atomOk (p .nodes) (p .variables) (atomIn f at)) (ltb (length (p .atoms)) 64)
+      (not (edgeUses (p .edges) (word f (at + 10)))) _ _ (next-ahead f at _ _ more h)
 
   clause-ahead : Ahead f at (clauseAt f at p)
   unfolding clauseAt
-  clause-ahead = if-ahead f at (clauseLen (lenAt f at)) _ _ _ (λ a. if-ahead f at (literalsOk (p .variables) (clauseIn f at)) _ _ _ (λ b. if-ahead f at (ltb (length (p .clauses)) 1024 && leb (literals (p .clauses) + lenAt f at / 2) 4096) _ _ _ (λ c. next-ahead f at _ _ more h)))
+  clause-ahead =
+      order-ahead f at (clauseLen (lenAt f at)) (literalsOk (p .variables) (clauseIn f at))
+      (ltb (length (p .clauses)) 1024 && leb (literals (p .clauses) + lenAt f at / 2) 4096) true _ _ (next-ahead f at _ _ more h)
 
   end-ahead : Ahead f at (endAt f at p)
   unfolding endAt
@@ -83,12 +88,14 @@ step-ahead f at p =
 head-ahead : (f : List ℕ) → Ahead f 0 (headAt f)
 unfolding headAt
 head-ahead f =
-    if-ahead f 0 (leb (length f) 16384) _ _ _ (λ a. if-ahead f 0 (fits f 0) _ _ _ (λ b. if-ahead f 0 (eqb (tagAt f 0) 1) _ _ _ (λ c. if-ahead f 0 (eqb (lenAt f 0) 4) _ _ _ (λ d.
+    if-ahead f 0 (leb (length f) 16384) _ _ _ (λ a. if-ahead f 0 (fits f 0) _ _ _ (λ b. if-ahead f 0 (eqb (tagAt f 0) 1) _ _ _ (λ c.
+    if-ahead f 0 (eqb (lenAt f 0) 4) _ _ _ (λ d.
     let h : after f 0 ≤ length f = fits-is f 0 b in
     let l : lenAt f 0 ≡ 4 = eqb-true (lenAt f 0) 4 d in
     if-ahead f 0 (headOk (word f 3) (word f 5)) _ _ _ (λ e. next-ahead f 0 _ _ (omega arith) (omega (arith, h, l)))))))
 
-on-same : (f : List ℕ) (at : ℕ) (g h : ℕ → PlanFile → Reading) → ((b : ℕ) (q : PlanFile) → at < b → b ≤ length f → g b q ≡ h b q) → (s : Step) → Ahead f at s → onward g s ≡ onward h s
+on-same : (f : List ℕ) (at : ℕ) (g h : ℕ → PlanFile → Reading) → ((b : ℕ) (q : PlanFile) → at < b → b ≤ length f → g b q ≡ h b q) → (s : Step) → Ahead f at s
+    → onward g s ≡ onward h s
 unfolding Ahead
 on-same f at g h e (refuse n v) a = refl
 on-same f at g h e (next b q) a = e b q (a .0) (a .1)
@@ -108,11 +115,15 @@ readFrom f at p = records (suc (length f)) f at p
 
 pub read-head : (f : List ℕ) → readPlan f ≡ onward (readFrom f) (headAt f)
 unfolding readPlan readFrom
-read-head f = on-same f 0 (records (length f) f) (readFrom f) (λ b q m l. enough (length f) (suc (length f)) f b q l (omega arith) (omega arith)) (headAt f) (head-ahead f)
+read-head f =
+    on-same f 0 (records (length f) f) (readFrom f) (λ b q m l. enough (length f) (suc (length f)) f b q l (omega arith) (omega arith)) (headAt f)
+    (head-ahead f)
 
 pub read-step : (f : List ℕ) (at : ℕ) (p : PlanFile) → at ≤ length f → readFrom f at p ≡ onward (readFrom f) (stepAt f at p)
 unfolding readFrom records
-read-step f at p w = on-same f at (records (length f) f) (readFrom f) (λ b q m l. enough (length f) (suc (length f)) f b q l (omega arith) (omega arith)) (stepAt f at p) (step-ahead f at p)
+read-step f at p w =
+    on-same f at (records (length f) f) (readFrom f) (λ b q m l. enough (length f) (suc (length f)) f b q l (omega arith) (omega arith)) (stepAt f at p)
+    (step-ahead f at p)
 
 counts-same : (p : PlanFile) (c d : counted.Plan) (es bs es′ bs′ : List ℕ) (cs cs′ : List ℤ) → Tables p c es bs cs → Tables p d es′ bs′ cs′ → c ≡ d
 counts-same p c d es bs es′ bs′ cs cs′ t u =
@@ -137,7 +148,8 @@ one-answer (accepted p) (Accepted c) (Accepted d) es bs es′ bs′ cs cs′ h k
 
 -- and no second contents of the tables, as far as they are filled
 pub one-filling : (p : PlanFile) (c : counted.Plan) (es bs es′ bs′ : List ℕ) (cs cs′ : List ℤ) → Tables p c es bs cs → Tables p c es′ bs′ cs′
-    → (take (c .edges * 3) es ≡ take (c .edges * 3) es′) × (take (c .atoms * 5) bs ≡ take (c .atoms * 5) bs′) × (take (c .literals + c .clauses) cs ≡ take (c .literals + c .clauses) cs′)
+    → (take (c .edges * 3) es ≡ take (c .edges * 3) es′) × (take (c .atoms * 5) bs ≡ take (c .atoms * 5) bs′)
+    × (take (c .literals + c .clauses) cs ≡ take (c .literals + c .clauses) cs′)
 one-filling p c es bs es′ bs′ cs cs′ t u = (t .edgeRows ∙ sym (u .edgeRows), t .atomRows ∙ sym (u .atomRows), t .clauseRows ∙ sym (u .clauseRows))
 
 -- what a caller has of an accepted file: its plan, in range, in the tables, and the counts within the tables' room
@@ -148,7 +160,8 @@ pub record Given (f : List ℕ) (c : counted.Plan) (es bs : List ℕ) (cs : List
   pub tables : Tables plan c es bs cs
   pub room : Room c
 
-given-by : (f : List ℕ) (q : Reading) → readPlan f ≡ q → (c : counted.Plan) (es bs : List ℕ) (cs : List ℤ) → Answers q (Accepted c) es bs cs → Given f c es bs cs
+given-by : (f : List ℕ) (q : Reading) → readPlan f ≡ q → (c : counted.Plan) (es bs : List ℕ) (cs : List ℤ) → Answers q (Accepted c) es bs cs
+    → Given f c es bs cs
 given-by f (refused n v) e c es bs cs h = absurd h
 given-by f (accepted p) e c es bs cs h =
     let r = read-ranged f p e in
@@ -157,8 +170,16 @@ given-by f (accepted p) e c es bs cs h =
       reads = e;
       ranged = r;
       tables = h;
-      room = record { nodes = subst (λ (n : ℕ). n ≤ maxNodes) (h .nodes) (r .nodes); variables = subst (λ (n : ℕ). n ≤ maxVariables) (h .variables) (r .variables); edges = subst (λ (n : ℕ). n ≤ maxEdges) (h .edges) (r .edges); atoms = subst (λ (n : ℕ). n ≤ maxAtoms) (h .atoms) (r .atoms); clauses = subst (λ (n : ℕ). n ≤ maxClauses) (h .clauses) (r .clauses); literals = subst (λ (n : ℕ). n ≤ maxLiterals) (h .literals) (r .literals) };
+      room = record {
+        nodes = subst (λ n. n ≤ maxNodes) (h .nodes) (r .nodes);
+        variables = subst (λ n. n ≤ maxVariables) (h .variables) (r .variables);
+        edges = subst (λ n. n ≤ maxEdges) (h .edges) (r .edges);
+        atoms = subst (λ n. n ≤ maxAtoms) (h .atoms) (r .atoms);
+        clauses = subst (λ n. n ≤ maxClauses) (h .clauses) (r .clauses);
+        literals = subst (λ n. n ≤ maxLiterals) (h .literals) (r .literals);
+      };
     }
 
-pub given : (f : List ℕ) (a : ReadAnswer) (c : counted.Plan) (es bs : List ℕ) (cs : List ℤ) → Answers (readPlan f) a es bs cs → a ≡ Accepted c → Given f c es bs cs
+pub given : (f : List ℕ) (a : ReadAnswer) (c : counted.Plan) (es bs : List ℕ) (cs : List ℤ) → Answers (readPlan f) a es bs cs → a ≡ Accepted c
+    → Given f c es bs cs
 given f a c es bs cs h e = given-by f (readPlan f) refl c es bs cs (subst (λ (x : ReadAnswer). Answers (readPlan f) x es bs cs) e h)

@@ -1,13 +1,13 @@
 -- What an accepted file leaves in the tables is what the library lends on: the plan file itself, in range.
 -- Assumes nothing.
-use mathlib.Core.Path.{_≡_, refl, sym, ap, ap₂, _∙_, subst}
+use mathlib.Core.Path.{_≡_, refl, sym, ap, _∙_, subst}
 use mathlib.Core.Logic.{_≢_}
 use mathlib.Core.List.{List, [], _∷_, List·Memᴰ}
-use Prim.Native.Nat.{ℕ, zero, suc, _+_, _*_, _≤_}
+use Prim.Native.Nat.{ℕ, _+_, _*_}
 use native.Mathlib.Omega.{arith}
 use lib.IntN.{ℤ, pos, natAbs}
 use lib.ListN.{length, take}
-use Rattle.plan.specs.Meaning.{Edge, Atom, PlanFile}
+use Rattle.plan.specs.Meaning.{Edge, Atom}
 use Rattle.plan.specs.Ranged.{Ranged, literals}
 use Rattle.plan.specs.Written.{flat}
 use Rattle.plan.specs.Tables.{edgesOf, atomsOf, clausesOf, planOf, Lent}
@@ -76,5 +76,6 @@ module _ (f : List ℕ) (c : counted.Plan) (es bs : List ℕ) (cs : List ℤ) (g
     };
   }
 
-pub lending : (f : List ℕ) (a : ReadAnswer) (c : counted.Plan) (es bs : List ℕ) (cs : List ℤ) → Answers (readPlan f) a es bs cs → a ≡ Accepted c → Lending f c es bs cs
+pub lending : (f : List ℕ) (a : ReadAnswer) (c : counted.Plan) (es bs : List ℕ) (cs : List ℤ) → Answers (readPlan f) a es bs cs → a ≡ Accepted c
+    → Lending f c es bs cs
 lending f a c es bs cs h e = lending-of f c es bs cs (given f a c es bs cs h e)

@@ -1,21 +1,24 @@
 -- From record to record: the reading from where the loop stands is the reading from where it began.
 -- Assumes nothing.
 use mathlib.Core.Path.{_≡_, refl, sym, ap, _∙_, subst}
+use mathlib.Core.Bool.{true, _&&_, and-eq-true-iff}
 use mathlib.Core.List.{List}
 use Prim.Native.Nat.{ℕ, zero, suc, _+_, _-_, _<_, _≤_}
 use native.Mathlib.Omega.{arith}
+use borrow.Author.Tests.{eq-eqb, ne-eqb, leb-true}
+use lib.Dec.{leb, eqb}
 use lib.IntN.{ℤ}
 use lib.ListN.{length}
 use Rattle.plan.specs.Meaning.{PlanFile}
-use Rattle.reader.specs.Format.{Step, refuse, next, done, Reading, refused, accepted, onward, records, stepAt, headAt, readPlan}
-use Rattle.reader.specs.Filling.{Tables, Stands, Room, Onward, Moves, Answers}
-use Rattle.plan.specs.declared.Refusal.{Refusal}
+use Rattle.plan.specs.Ranged.{literals}
+use Rattle.plan.specs.Written.{flat}
 use Rattle.plan.specs.declared.Plan as counted
-use Rattle.reader.specs.declared.Move.{Move}
-use Rattle.reader.specs.declared.Move.the-variants.{Stopped, Next, Done}
+use Rattle.reader.specs.Format.{Step, next, done, check, Reading, refused, onward, word, tagAt, after, headOk, emptyPlan, records, stepAt, readPlan}
+use Rattle.reader.specs.Filling.{Tables, Room, Answers, RefusedBy, HeadRead, RecordRead, EndRead, RestRead, start, oneMore, added, led, flatEdges, flatAtoms}
 use Rattle.reader.specs.declared.ReadAnswer.{ReadAnswer}
 use Rattle.reader.specs.declared.ReadAnswer.the-variants.{Accepted, Refused}
 
+-- some plan file stands in the tables, and what is read from the offset on is r
 pub record Reached (f : List ℕ) (r : Reading) (at : ℕ) (c : counted.Plan) (es bs : List ℕ) (cs : List ℤ) : Type 0 where
   pub plan : PlanFile
   pub turns : ℕ
@@ -26,73 +29,88 @@ pub record Reached (f : List ℕ) (r : Reading) (at : ℕ) (c : counted.Plan) (e
 turn : (f : List ℕ) (k at : ℕ) (p : PlanFile) → 0 < k → records k f at p ≡ onward (records (k - 1) f) (stepAt f at p)
 unfolding records
 turn f zero at p h = absurd (omega arith)
-turn f (suc k) at p h = let e : suc k - 1 ≡ k = omega arith in ap (λ (n : ℕ). onward (records n f) (stepAt f at p)) (sym e)
+turn f (suc k) at p h = let e : suc k - 1 ≡ k = omega arith in ap (λ n. onward (records n f) (stepAt f at p)) (sym e)
 
-refused-by : (f : List ℕ) (g : ℕ → PlanFile → Reading) (at : ℕ) (s : Step) (x : Refusal) (es bs : List ℕ) (cs : List ℤ) → Moves f at s (Stopped x) es bs cs → Answers (onward g s) (Refused x) es bs cs
-refused-by f g at (refuse n v) x es bs cs m = m
-refused-by f g at (next b p) x es bs cs m = absurd m
-refused-by f g at (done p) x es bs cs m = absurd m
+-- what a step's number leads to
+numbered : (g : ℕ → PlanFile → Reading) (s l : Step) (n v : ℕ) → s ≡ check (eqb n 0) n v l → (n ≡ 0 → ⊥) → onward g s ≡ refused n v
+numbered g s l n v e h = ap (onward g) (e ∙ ap (λ b. check b n v l) (ne-eqb n 0 h))
 
-done-by : (f : List ℕ) (g : ℕ → PlanFile → Reading) (at : ℕ) (s : Step) (d : counted.Plan) (es bs : List ℕ) (cs : List ℤ) → Moves f at s (Done d) es bs cs → Answers (onward g s) (Accepted d) es bs cs
-done-by f g at (refuse n v) d es bs cs m = absurd m
-done-by f g at (next b p) d es bs cs m = absurd m
-done-by f g at (done p) d es bs cs m = m
+unnumbered : (g : ℕ → PlanFile → Reading) (s l : Step) (n v : ℕ) → s ≡ check (eqb n 0) n v l → n ≡ 0 → onward g s ≡ onward g l
+unnumbered g s l n v e h = ap (onward g) (e ∙ ap (λ b. check b n v l) (eq-eqb n 0 h))
 
-pub forward : (f : List ℕ) (at : ℕ) (s : Step) (a : ℕ) (d : counted.Plan) (es bs : List ℕ) (cs : List ℤ) → Moves f at s (Next a d) es bs cs → Onward f at a d
-forward f at (refuse n v) a d es bs cs m = absurd m
-forward f at (next b p) a d es bs cs m = m .1
-forward f at (done p) a d es bs cs m = absurd m
+answers : (n v : ℕ) (x : ReadAnswer) (es bs : List ℕ) (cs : List ℤ) → RefusedBy n v x → Answers (refused n v) x es bs cs
+answers n v (Refused y) es bs cs e = e
+answers n v (Accepted c) es bs cs e = e
 
-next-by : (f : List ℕ) (k at : ℕ) (s : Step) (a : ℕ) (d : counted.Plan) (es bs : List ℕ) (cs : List ℤ) → length f < a + k → Moves f at s (Next a d) es bs cs → Reached f (onward (records k f) s) a d es bs cs
-next-by f k at (refuse n v) a d es bs cs h m = absurd m
-next-by f k at (next b p) a d es bs cs h m = record { plan = p; turns = k; enough = h; tables = m .2; same = ap (λ (n : ℕ). records k f n p) (sym (m .0)) }
-next-by f k at (done p) a d es bs cs h m = absurd m
+module _ {f : List ℕ} {r : Reading} {at : ℕ} {c : counted.Plan} {es bs : List ℕ} {cs : List ℤ} (w : Reached f r at c es bs cs) (within : at ≤ length f)
+    {n : ℕ} {es′ bs′ : List ℕ} {cs′ : List ℤ} (k : RecordRead f at c es bs cs n es′ bs′ cs′) where
+  abbrev rest : ℕ → PlanFile → Reading
+  rest = records (w .turns - 1) f
 
--- what the invariant's record gives after a step
-module _ {f : List ℕ} {r : Reading} {at : ℕ} {c : counted.Plan} {es bs : List ℕ} {cs : List ℤ} (w : Reached f r at c es bs cs) (within : at ≤ length f) where
-  go-on : onward (records (w .turns - 1) f) (stepAt f at (w .plan)) ≡ r
+  go-on : onward rest (stepAt f at (w .plan)) ≡ r
   go-on = sym (turn f (w .turns) at (w .plan) (omega (arith, w .enough))) ∙ w .same
 
-  module _ (ds ts : List ℕ) (ls : List ℤ) (m : Move) (h : Moves f at (stepAt f at (w .plan)) m ds ts ls) where
-    pub end-refused : (x : Refusal) → m ≡ Stopped x → Answers r (Refused x) ds ts ls
-    end-refused x e = subst (λ (q : Reading). Answers q (Refused x) ds ts ls) go-on (refused-by f (records (w .turns - 1) f) at (stepAt f at (w .plan)) x ds ts ls (subst (λ (n : Move). Moves f at (stepAt f at (w .plan)) n ds ts ls) e h))
+  pub end-refused : (n ≡ 0 → ⊥) → (x : ReadAnswer) → RefusedBy n at x → Answers r x es′ bs′ cs′
+  end-refused h x e =
+      subst (λ q. Answers q x es′ bs′ cs′) (sym (numbered rest _ (led f at (w .plan)) n at (k .took .step (w .plan) (w .tables)) h) ∙ go-on)
+      (answers n at x es′ bs′ cs′ e)
 
-    pub end-done : (d : counted.Plan) → m ≡ Done d → Answers r (Accepted d) ds ts ls
-    end-done d e = subst (λ (q : Reading). Answers q (Accepted d) ds ts ls) go-on (done-by f (records (w .turns - 1) f) at (stepAt f at (w .plan)) d ds ts ls (subst (λ (n : Move). Moves f at (stepAt f at (w .plan)) n ds ts ls) e h))
+  module _ (z : n ≡ 0) where
+    led-on : onward rest (led f at (w .plan)) ≡ r
+    led-on = sym (unnumbered rest _ (led f at (w .plan)) n at (k .took .step (w .plan) (w .tables)) z) ∙ go-on
 
-    pub ahead : (a : ℕ) (d : counted.Plan) → m ≡ Next a d → Onward f at a d
-    ahead a d e = forward f at (stepAt f at (w .plan)) a d ds ts ls (subst (λ (n : Move). Moves f at (stepAt f at (w .plan)) n ds ts ls) e h)
+    stand : Tables (added f at (w .plan)) (oneMore f at c) es′ bs′ cs′
+    stand = k .took .tables z (w .plan) (w .tables)
 
-    pub go-next : (a : ℕ) (d : counted.Plan) → m ≡ Next a d → Reached f r a d ds ts ls
-    go-next a d e =
-        let o = ahead a d e in
-        subst (λ (q : Reading). Reached f q a d ds ts ls) go-on
-        (next-by f (w .turns - 1) at (stepAt f at (w .plan)) a d ds ts ls (omega (arith, o .more, w .enough)) (subst (λ (n : Move). Moves f at (stepAt f at (w .plan)) n ds ts ls) e h))
+    pub end-read : tagAt f at ≡ 5 → (a : ReadAnswer) → EndRead f (at + 3) c a → Answers r a es′ bs′ cs′
+    unfolding led added oneMore
+    end-read e a g =
+        let q : led f at (w .plan) ≡ check (eqb (length f) (at + 3)) 3 (at + 3) (done (w .plan)) = simp e in
+        subst (λ q. Answers q a es′ bs′ cs′) (ap (onward rest) (sym q) ∙ led-on) (g rest (w .plan) es′ bs′ cs′ (simp e at stand))
 
--- the whole file, from the head's move
-module _ (f : List ℕ) (m : Move) where
-  pub read-refused : (es bs : List ℕ) (cs : List ℤ) → Moves f 0 (headAt f) m es bs cs → (x : Refusal) → m ≡ Stopped x → Answers (readPlan f) (Refused x) es bs cs
+    pub go-next : (tagAt f at ≡ 5 → ⊥) → (b : ℕ) (d : counted.Plan) → b ≡ after f at → d ≡ oneMore f at c → Reached f r b d es′ bs′ cs′
+    unfolding led
+    go-next e b d be de =
+        let q : led f at (w .plan) ≡ next (after f at) (added f at (w .plan)) = simp (ne-eqb _ 5 e) in
+        record {
+          plan = added f at (w .plan);
+          turns = w .turns - 1;
+          enough = omega (arith, w .enough);
+          tables = subst (λ d. Tables (added f at (w .plan)) d es′ bs′ cs′) (sym de) stand;
+          same = ap (λ b. rest b (added f at (w .plan))) be ∙ ap (onward rest) (sym q) ∙ led-on;
+        }
+
+start-tables : (f es bs : List ℕ) (cs : List ℤ) → Tables (emptyPlan (word f 3) (word f 5)) (start f) es bs cs
+unfolding flatEdges flatAtoms flat literals
+start-tables f es bs cs =
+    record { nodes = refl; variables = refl; edges = refl; atoms = refl; clauses = refl; literals = refl; edgeRows = refl; atomRows = refl; clauseRows = refl }
+
+pub start-room : (f : List ℕ) → headOk (word f 3) (word f 5) ≡ true → Room (start f)
+unfolding headOk
+start-room f h =
+    let n = word f 3 in
+    let v = word f 5 in
+    let q = and-eq-true-iff (leb 1 n && leb n 64 && leb 1 v) (leb v 512) .0 h in
+    let k = and-eq-true-iff (leb 1 n && leb n 64) (leb 1 v) .0 (q .0) in
+    let m = and-eq-true-iff (leb 1 n) (leb n 64) .0 (k .0) in
+    record {
+      nodes = leb-true n 64 (m .1);
+      variables = leb-true v 512 (q .1);
+      edges = omega arith;
+      atoms = omega arith;
+      clauses = omega arith;
+      literals = omega arith;
+    }
+
+-- the whole file, from the head's number
+module _ (f : List ℕ) {n : ℕ} (h : HeadRead f n) where
+  pub read-refused : (n ≡ 0 → ⊥) → (x : ReadAnswer) → RefusedBy n 0 x → (es bs : List ℕ) (cs : List ℤ) → Answers (readPlan f) x es bs cs
   unfolding readPlan
-  read-refused es bs cs h x e = refused-by f (records (length f) f) 0 (headAt f) x es bs cs (subst (λ (n : Move). Moves f 0 (headAt f) n es bs cs) e h)
+  read-refused z x e es bs cs = subst (λ q. Answers q x es bs cs) (sym (numbered (records (length f) f) _ _ n 0 (h .step) z)) (answers n 0 x es bs cs e)
 
-  pub read-done : (es bs : List ℕ) (cs : List ℤ) → Moves f 0 (headAt f) m es bs cs → (d : counted.Plan) → m ≡ Done d → Answers (readPlan f) (Accepted d) es bs cs
+  pub read-rest : n ≡ 0 → (es bs es′ bs′ : List ℕ) (cs cs′ : List ℤ) (r : ReadAnswer) → RestRead f 7 (start f) es bs cs r es′ bs′ cs′
+      → Answers (readPlan f) r es′ bs′ cs′
   unfolding readPlan
-  read-done es bs cs h d e = done-by f (records (length f) f) 0 (headAt f) d es bs cs (subst (λ (n : Move). Moves f 0 (headAt f) n es bs cs) e h)
-
-  pub head-ahead : (es bs : List ℕ) (cs : List ℤ) → Moves f 0 (headAt f) m es bs cs → (a : ℕ) (d : counted.Plan) → m ≡ Next a d → Onward f 0 a d
-  head-ahead es bs cs h a d e = forward f 0 (headAt f) a d es bs cs (subst (λ (n : Move). Moves f 0 (headAt f) n es bs cs) e h)
-
-  reached : (es bs : List ℕ) (cs : List ℤ) → Moves f 0 (headAt f) m es bs cs → (a : ℕ) (d : counted.Plan) → m ≡ Next a d → Reached f (readPlan f) a d es bs cs
-  unfolding readPlan
-  reached es bs cs h a d e =
-      let o = head-ahead es bs cs h a d e in
-      next-by f (length f) 0 (headAt f) a d es bs cs (omega (arith, o .more)) (subst (λ (n : Move). Moves f 0 (headAt f) n es bs cs) e h)
-
-  pub head-stands : (es bs : List ℕ) (cs : List ℤ) → Moves f 0 (headAt f) m es bs cs → (a : ℕ) (d : counted.Plan) → m ≡ Next a d → Stands d es bs cs
-  head-stands es bs cs h a d e = let w = reached es bs cs h a d e in record { plan = w .plan; tables = w .tables }
-
-  pub read-next : (es bs : List ℕ) (cs : List ℤ) → Moves f 0 (headAt f) m es bs cs → (a : ℕ) (d : counted.Plan) → m ≡ Next a d
-      → (r : ReadAnswer) (ds ts : List ℕ) (ls : List ℤ) → ((p : PlanFile) (k : ℕ) → length f < a + k → Tables p d es bs cs → Answers (records k f a p) r ds ts ls) → Answers (readPlan f) r ds ts ls
-  read-next es bs cs h a d e r ds ts ls g =
-      let w = reached es bs cs h a d e in
-      subst (λ (q : Reading). Answers q r ds ts ls) (w .same) (g (w .plan) (w .turns) (w .enough) (w .tables))
+  read-rest z es bs es′ bs′ cs cs′ r g =
+      subst (λ q. Answers q r es′ bs′ cs′) (sym (unnumbered (records (length f) f) _ _ n 0 (h .step) z))
+      (g _ (length f) (omega arith) (start-tables f es bs cs))

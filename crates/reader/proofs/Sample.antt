@@ -3,9 +3,9 @@
 use mathlib.Core.Path.{_≡_, refl}
 use mathlib.Core.List.{List, [], _∷_}
 use Prim.Native.Nat.{ℕ}
-use lib.IntN.{ℤ, pos, negsuc}
-use Rattle.plan.specs.Meaning.{Edge, Atom, PlanFile}
-use Rattle.reader.specs.Format.{Reading, refused, accepted, readPlan, records, headAt, stepAt, edgeAt, atomAt, clauseAt, endAt, fits, headOk, endsOk, kindOk, literalOk, literalsOk, literalsIn, edgeUses, atomUses, clauseLen}
+use lib.IntN.{pos, negsuc}
+use Rattle.plan.specs.Meaning.{PlanFile}
+use Rattle.reader.specs.Format.{refused, accepted, readPlan, records, headAt, stepAt, edgeAt, atomAt, clauseAt, endAt, fits, headOk, endsOk, kindOk, literalOk, literalsOk, literalsIn, edgeUses, atomUses, clauseLen}
 use Rattle.plan.specs.Ranged.{literals}
 
 pub sample : List ℕ

@@ -1,297 +1,245 @@
--- Each record's outcome, from what the code tests.
+-- What the code's tests say of each record.
 -- Assumes nothing.
 use mathlib.Core.Path.{_≡_, refl, sym, ap, _∙_, subst}
-use mathlib.Core.Bool.{Bool, true, false, not, _&&_, _||_, and-eq-true-iff}
-use mathlib.Core.List.{List, [], _∷_, _++_, append-assoc}
-use Prim.Native.Nat.{ℕ, zero, suc, _+_, _-_, _*_, _/_, _<_, _≤_}
+use mathlib.Core.Bool.{Bool, true, false, not, _&&_, and-eq-true-iff}
+use mathlib.Core.List.{List, [], _∷_, _++_}
+use Prim.Native.Nat.{ℕ, _+_, _*_, _/_, _≤_}
 use native.Mathlib.Omega.{arith}
-use borrow.Author.Tests.{lt-ltb, le-ltb, lt-leb, le-leb, eq-eqb, ne-eqb, leb-true}
+use borrow.Author.Tests.{ltb-true, leb-true, ne-eqb}
 use lib.Dec.{ltb, leb, eqb}
 use lib.IntN.{ℤ, pos}
-use lib.ListN.{length, take, getD}
+use lib.ListN.{length, take}
 use Rattle.plan.specs.Meaning.{Edge, Atom, PlanFile}
-use Rattle.reader.specs.Format.{Step, refuse, next, done, check, word, tagAt, lenAt, after, fits, headOk, endsOk, kindOk, literalsOk, literalsIn, clauseLen, edgeUses, atomUses, edgeIn, atomIn, clauseIn, addEdge, addAtom, addClause, emptyPlan, edgeAt, atomAt, clauseAt, endAt, tagged, stepAt, headAt}
-use Rattle.plan.specs.Ranged.{literals}
-use Rattle.reader.specs.Filling.{Tables, Room, Onward, Moves, thirds, fifths, flatEdges, flatAtoms}
-use Rattle.plan.specs.Written.{flat}
-use Rattle.plan.specs.declared.Refusal.{Refusal}
-use Rattle.plan.specs.Refusals.{numberOf, valueOf}
+use Rattle.plan.specs.Ranged.{maxNodes, maxVariables, maxEdges, maxAtoms, maxClauses, maxLiterals, literals}
 use Rattle.plan.specs.declared.Plan as counted
-use Rattle.reader.specs.declared.Move.{Move}
-use Rattle.reader.specs.declared.Move.the-variants.{Stopped, Next, Done}
-use Rattle.reader.proofs.Rows.{thirds-flat, fifths-flat, flat-edge, flat-atom, flat-clause, count-clause, length-snoc, literals-length}
+use Rattle.reader.specs.Format.{Step, refuse, next, check, inOrder, word, tagAt, lenAt, after, fits, edgeOk, atomOk, literalsOk, clauseLen, edgeIn, atomIn, clauseIn, addEdge, addAtom, addClause, emptyPlan, edgeAt, atomAt, clauseAt, endAt, stepAt, headAt}
+use Rattle.reader.specs.Filling.{Tables, Room, Took, Numbered, HeadRead, EdgeRead, AtomRead, ClauseRead, RecordRead, lastIs, oneMore, added, led, oneEdge, oneAtom, oneClause}
+use Rattle.reader.proofs.Rows.{uses-edges, uses-atoms, flat-edge, flat-atom, flat-clause, count-clause, length-snoc, literals-length}
 
--- the two ways of a check
-pub no : {b : Bool} (n v : ℕ) (s : Step) → b ≡ false → check b n v s ≡ refuse n v
-no n v s e = ap (λ (b : Bool). check b n v s) e
+-- the number of the first of a record's four tests that fails, or 0
+abbrev pub fault : Bool → Bool → Bool → Bool → ℕ
+fault false ranged room apart = 5
+fault true false room apart = 6
+fault true true false apart = 7
+fault true true true false = 8
+fault true true true true = 0
 
-pub yes : {b : Bool} (n v : ℕ) (s : Step) → b ≡ true → check b n v s ≡ s
-yes n v s e = ap (λ (b : Bool). check b n v s) e
+in-order : (long ranged room apart : Bool) (at : ℕ) (s : Step)
+    → inOrder long ranged room apart at s ≡ check (eqb (fault long ranged room apart) 0) (fault long ranged room apart) at s
+in-order false ranged room apart at s = refl
+in-order true false room apart at s = refl
+in-order true true false apart at s = refl
+in-order true true true false at s = refl
+in-order true true true true at s = refl
 
--- a move from a step
-module _ (f : List ℕ) (at : ℕ) (es bs : List ℕ) (cs : List ℤ) where
-  pub stop : (s : Step) (x : Refusal) → s ≡ refuse (numberOf x) (valueOf x) → Moves f at s (Stopped x) es bs cs
-  stop s x e = subst (λ (s : Step). Moves f at s (Stopped x) es bs cs) (sym e) (refl, refl)
+pub numbered : (r v : ℕ) → 2 ≤ r → r ≤ 8 → Numbered r v
+numbered r v l h = record { low = omega arith; high = h; whole = λ e. absurd (omega arith) }
 
-  pub go : (s : Step) (b a : ℕ) (p : PlanFile) (c : counted.Plan) → s ≡ next b p → b ≡ a → Onward f at a c → Tables p c es bs cs → Moves f at s (Next a c) es bs cs
-  go s b a p c e q o t = subst (λ (s : Step). Moves f at s (Next a c) es bs cs) (sym e) (q, o, t)
+fault-numbered : (long ranged room apart : Bool) (at : ℕ) → (fault long ranged room apart ≡ 0 → ⊥) → Numbered (fault long ranged room apart) at
+fault-numbered false ranged room apart at h = numbered 5 at (omega arith) (omega arith)
+fault-numbered true false room apart at h = numbered 6 at (omega arith) (omega arith)
+fault-numbered true true false apart at h = numbered 7 at (omega arith) (omega arith)
+fault-numbered true true true false at h = numbered 8 at (omega arith) (omega arith)
+fault-numbered true true true true at h = absurd (h refl)
 
-  pub whole : (s : Step) (p : PlanFile) (c : counted.Plan) → s ≡ done p → Tables p c es bs cs → Moves f at s (Done c) es bs cs
-  whole s p c e t = subst (λ (s : Step). Moves f at s (Done c) es bs cs) (sym e) t
+fault-room : (long ranged room apart : Bool) → fault long ranged room apart ≡ 0 → room ≡ true
+fault-room false ranged room apart h = absurd (omega arith)
+fault-room true false room apart h = absurd (omega arith)
+fault-room true true false apart h = absurd (omega arith)
+fault-room true true true apart h = refl
 
-  pub same : (s u : Step) (m : Move) → s ≡ u → Moves f at u m es bs cs → Moves f at s m es bs cs
-  same s u m e t = subst (λ (s : Step). Moves f at s m es bs cs) (sym e) t
+-- A record is taken by the number of its tests, where these are the definition's.
+module _ {at r : ℕ} {s l : PlanFile → Step} {a : PlanFile → PlanFile} {c d : counted.Plan} {es bs es′ bs′ : List ℕ} {cs cs′ : List ℤ} where
+  took : (long ranged room apart : Bool) → r ≡ fault long ranged room apart → (room ≡ true → Room d)
+      → ((p : PlanFile) → Tables p c es bs cs → s p ≡ inOrder long ranged room apart at (l p))
+      → (r ≡ 0 → (p : PlanFile) → Tables p c es bs cs → Tables (a p) d es′ bs′ cs′)
+      → Took at s l a c d es bs cs r es′ bs′ cs′
+  took long ranged room apart e fill step stored = record {
+    number = λ n. subst (λ x. Numbered x at) (sym e) (fault-numbered long ranged room apart at (λ z. n (e ∙ z)));
+    room = λ z. fill (fault-room long ranged room apart (sym e ∙ z));
+    step = λ p t. step p t ∙ in-order long ranged room apart at (l p) ∙ ap (λ n. check (eqb n 0) n at (l p)) (sym e);
+    tables = stored;
+  }
 
--- an edge's words, as the code has them
-pub record EdgeSeen (f : List ℕ) (at from to variable : ℕ) : Type 0 where
-  pub from-is : from ≡ word f (at + 3)
-  pub to-is : to ≡ word f (at + 5)
-  pub variable-is : variable ≡ word f (at + 7)
+-- The tests of each sort of record, of the counts and the tables, handed to k; and the record's number, which the code computes.
+abbrev edgeTests : {A : Type 0} → List ℕ → ℕ → counted.Plan → List ℕ → (Bool → Bool → Bool → Bool → A) → A
+edgeTests f at c bs k =
+    k (eqb (lenAt f at) 6) (edgeOk (c .nodes) (c .variables) (edgeIn f at)) (ltb (c .edges) 256) (not (lastIs 4 4 (take (c .atoms * 5) bs) (word f (at + 7))))
 
-module _ (f : List ℕ) (at : ℕ) (p : PlanFile) where
-  pub edge-len : (lenAt f at ≡ 6 → ⊥) → edgeAt f at p ≡ refuse 5 at
+abbrev pub edgeFault : List ℕ → ℕ → counted.Plan → List ℕ → ℕ
+edgeFault f at c bs = edgeTests f at c bs fault
+
+abbrev atomTests : {A : Type 0} → List ℕ → ℕ → counted.Plan → List ℕ → (Bool → Bool → Bool → Bool → A) → A
+atomTests f at c es k =
+    k (eqb (lenAt f at) 9) (atomOk (c .nodes) (c .variables) (atomIn f at)) (ltb (c .atoms) 64) (not (lastIs 2 2 (take (c .edges * 3) es) (word f (at + 10))))
+
+abbrev pub atomFault : List ℕ → ℕ → counted.Plan → List ℕ → ℕ
+atomFault f at c es = atomTests f at c es fault
+
+abbrev clauseTests : {A : Type 0} → List ℕ → ℕ → counted.Plan → (Bool → Bool → Bool → Bool → A) → A
+clauseTests f at c k =
+    k (clauseLen (lenAt f at)) (literalsOk (c .variables) (clauseIn f at)) (ltb (c .clauses) 1024 && leb (c .literals + lenAt f at / 2) 4096) true
+
+abbrev pub clauseFault : List ℕ → ℕ → counted.Plan → ℕ
+clauseFault f at c = clauseTests f at c fault
+
+-- A row is stored behind those that the counts tell of.
+abbrev pub EdgeStored : counted.Plan → List ℕ → List ℕ → Edge → Type 0
+EdgeStored c es es′ e = take (c .edges * 3 + 3) es′ ≡ take (c .edges * 3) es ++ (e .from ∷ e .to ∷ e .variable ∷ [])
+
+abbrev pub AtomStored : counted.Plan → List ℕ → List ℕ → Atom → Type 0
+AtomStored c bs bs′ a = take (c .atoms * 5 + 5) bs′ ≡ take (c .atoms * 5) bs ++ (a .kind ∷ a .from ∷ a .to ∷ a .bound ∷ a .variable ∷ [])
+
+module _ (f : List ℕ) (at : ℕ) {p : PlanFile} {c : counted.Plan} {es bs : List ℕ} {cs : List ℤ} (t : Tables p c es bs cs) where
+  edge-step : edgeAt f at p ≡ edgeTests f at c bs inOrder at (next (after f at) (addEdge p (edgeIn f at)))
   unfolding edgeAt
-  edge-len h = no _ _ _ (ne-eqb _ _ h)
+  edge-step = simp (← t .nodes, ← t .variables, ← t .edges, t .atomRows, uses-atoms)
 
-module _ {f : List ℕ} {at : ℕ} {p : PlanFile} {c : counted.Plan} {es bs : List ℕ} {cs : List ℤ} (t : Tables p c es bs cs) {from to variable : ℕ} (w : EdgeSeen f at from to variable) (l : lenAt f at ≡ 6) where
-  edge-ok : endsOk (p .nodes) (p .variables) (word f (at + 3)) (word f (at + 5)) (word f (at + 7)) ≡ endsOk (c .nodes) (c .variables) from to variable
-  edge-ok = cc
+  atom-step : atomAt f at p ≡ atomTests f at c es inOrder at (next (after f at) (addAtom p (atomIn f at)))
+  unfolding atomAt
+  atom-step = simp (← t .nodes, ← t .variables, ← t .atoms, t .edgeRows, uses-edges)
 
-  edge-variable : atomUses (p .atoms) (word f (at + 7)) ≡ fifths (take (c .atoms * 5) bs) variable
-  edge-variable = sym (fifths-flat (p .atoms) (word f (at + 7))) ∙ cc
+  clause-step : clauseAt f at p ≡ clauseTests f at c inOrder at (next (after f at) (addClause p (clauseIn f at)))
+  unfolding clauseAt
+  clause-step = simp (← t .variables, ← t .clauses, ← t .literals)
 
-  pub edge-range : endsOk (c .nodes) (c .variables) from to variable ≡ false → edgeAt f at p ≡ refuse 6 at
-  unfolding edgeAt
-  edge-range r = yes _ _ _ (eq-eqb _ _ l) ∙ no _ _ _ (edge-ok ∙ r)
-
-  pub edge-many : endsOk (c .nodes) (c .variables) from to variable ≡ true → 256 ≤ c .edges → edgeAt f at p ≡ refuse 7 at
-  unfolding edgeAt
-  edge-many r m = yes _ _ _ (eq-eqb _ _ l) ∙ yes _ _ _ (edge-ok ∙ r) ∙ no _ _ _ (le-ltb (length (p .edges)) 256 (omega (arith, t .edges)))
-
-  pub edge-shared : endsOk (c .nodes) (c .variables) from to variable ≡ true → c .edges < 256 → fifths (take (c .atoms * 5) bs) variable ≡ true → edgeAt f at p ≡ refuse 8 at
-  unfolding edgeAt
-  edge-shared r m u = yes _ _ _ (eq-eqb _ _ l) ∙ yes _ _ _ (edge-ok ∙ r) ∙ yes _ _ _ (lt-ltb (length (p .edges)) 256 (omega (arith, t .edges))) ∙ no _ _ _ (ap not (edge-variable ∙ u))
-
-  pub edge-next : endsOk (c .nodes) (c .variables) from to variable ≡ true → c .edges < 256 → fifths (take (c .atoms * 5) bs) variable ≡ false → edgeAt f at p ≡ next (after f at) (addEdge p (edgeIn f at))
-  unfolding edgeAt
-  edge-next r m u = yes _ _ _ (eq-eqb _ _ l) ∙ yes _ _ _ (edge-ok ∙ r) ∙ yes _ _ _ (lt-ltb (length (p .edges)) 256 (omega (arith, t .edges))) ∙ yes _ _ _ (ap not (edge-variable ∙ u))
-
-  pub edge-tables : (d : List ℕ) → take (c .edges * 3 + 3) d ≡ take (c .edges * 3) es ++ (from ∷ to ∷ variable ∷ [])
-      → Tables (addEdge p (edgeIn f at)) (record { nodes = c .nodes; variables = c .variables; edges = c .edges + 1; atoms = c .atoms; clauses = c .clauses; literals = c .literals }) d bs cs
+  edge-tables : (d : List ℕ) → EdgeStored c es d (edgeIn f at) → Tables (addEdge p (edgeIn f at)) (oneEdge c) d bs cs
   edge-tables d h =
       let n : (c .edges + 1) * 3 ≡ c .edges * 3 + 3 = omega arith in
-      let k : take (c .edges * 3) es ++ (from ∷ to ∷ variable ∷ []) ≡ flatEdges (p .edges) ++ (word f (at + 3) ∷ word f (at + 5) ∷ word f (at + 7) ∷ []) = cc in
       record {
         nodes = t .nodes;
         variables = t .variables;
-        edges = length-snoc (p .edges) (edgeIn f at) ∙ ap (λ (x : ℕ). x + 1) (t .edges);
+        edges = length-snoc (p .edges) (edgeIn f at) ∙ ap (λ x. x + 1) (t .edges);
         atoms = t .atoms;
         clauses = t .clauses;
         literals = t .literals;
-        edgeRows = ap (λ (x : ℕ). take x d) n ∙ h ∙ k ∙ sym (flat-edge (p .edges) (edgeIn f at));
+        edgeRows = ap (λ x. take x d) n ∙ h ∙ simp (t .edgeRows, flat-edge);
         atomRows = t .atomRows;
         clauseRows = t .clauseRows;
       }
 
-module _ (f : List ℕ) (at : ℕ) (p : PlanFile) where
-  pub end-len : (lenAt f at ≡ 0 → ⊥) → endAt f at p ≡ refuse 5 at
-  unfolding endAt
-  end-len h = no _ _ _ (ne-eqb _ _ h)
-
-  pub end-after : lenAt f at ≡ 0 → (length f ≡ at + 3 → ⊥) → endAt f at p ≡ refuse 3 (at + 3)
-  unfolding endAt
-  end-after l h = yes _ _ _ (eq-eqb _ _ l) ∙ no _ _ _ (ne-eqb _ _ h)
-
-  pub end-done : lenAt f at ≡ 0 → length f ≡ at + 3 → endAt f at p ≡ done p
-  unfolding endAt
-  end-done l h = yes _ _ _ (eq-eqb _ _ l) ∙ yes _ _ _ (eq-eqb _ _ h)
-
--- an atom's numbers, as the code has them
-pub record AtomSeen (f : List ℕ) (at kind from to bound variable : ℕ) : Type 0 where
-  pub kind-is : kind ≡ getD f (at + 3) 0
-  pub from-is : from ≡ word f (at + 4)
-  pub to-is : to ≡ word f (at + 6)
-  pub bound-is : bound ≡ word f (at + 8)
-  pub variable-is : variable ≡ word f (at + 10)
-
-module _ (f : List ℕ) (at : ℕ) (p : PlanFile) where
-  pub atom-len : (lenAt f at ≡ 9 → ⊥) → atomAt f at p ≡ refuse 5 at
-  unfolding atomAt
-  atom-len h = no _ _ _ (ne-eqb _ _ h)
-
-module _ {f : List ℕ} {at : ℕ} {p : PlanFile} {c : counted.Plan} {es bs : List ℕ} {cs : List ℤ} (t : Tables p c es bs cs) {kind from to bound variable : ℕ} (w : AtomSeen f at kind from to bound variable) (l : lenAt f at ≡ 9) where
-  atom-ok : (kindOk (getD f (at + 3) 0) (word f (at + 8)) && endsOk (p .nodes) (p .variables) (word f (at + 4)) (word f (at + 6)) (word f (at + 10))) ≡ (kindOk kind bound && endsOk (c .nodes) (c .variables) from to variable)
-  atom-ok = cc
-
-  atom-variable : edgeUses (p .edges) (word f (at + 10)) ≡ thirds (take (c .edges * 3) es) variable
-  atom-variable = sym (thirds-flat (p .edges) (word f (at + 10))) ∙ cc
-
-  pub atom-range : (kindOk kind bound && endsOk (c .nodes) (c .variables) from to variable) ≡ false → atomAt f at p ≡ refuse 6 at
-  unfolding atomAt
-  atom-range r = yes _ _ _ (eq-eqb _ _ l) ∙ no _ _ _ (atom-ok ∙ r)
-
-  pub atom-many : (kindOk kind bound && endsOk (c .nodes) (c .variables) from to variable) ≡ true → 64 ≤ c .atoms → atomAt f at p ≡ refuse 7 at
-  unfolding atomAt
-  atom-many r m = yes _ _ _ (eq-eqb _ _ l) ∙ yes _ _ _ (atom-ok ∙ r) ∙ no _ _ _ (le-ltb (length (p .atoms)) 64 (omega (arith, t .atoms)))
-
-  pub atom-shared : (kindOk kind bound && endsOk (c .nodes) (c .variables) from to variable) ≡ true → c .atoms < 64 → thirds (take (c .edges * 3) es) variable ≡ true → atomAt f at p ≡ refuse 8 at
-  unfolding atomAt
-  atom-shared r m u = yes _ _ _ (eq-eqb _ _ l) ∙ yes _ _ _ (atom-ok ∙ r) ∙ yes _ _ _ (lt-ltb (length (p .atoms)) 64 (omega (arith, t .atoms))) ∙ no _ _ _ (ap not (atom-variable ∙ u))
-
-  pub atom-next : (kindOk kind bound && endsOk (c .nodes) (c .variables) from to variable) ≡ true → c .atoms < 64 → thirds (take (c .edges * 3) es) variable ≡ false → atomAt f at p ≡ next (after f at) (addAtom p (atomIn f at))
-  unfolding atomAt
-  atom-next r m u = yes _ _ _ (eq-eqb _ _ l) ∙ yes _ _ _ (atom-ok ∙ r) ∙ yes _ _ _ (lt-ltb (length (p .atoms)) 64 (omega (arith, t .atoms))) ∙ yes _ _ _ (ap not (atom-variable ∙ u))
-
-  pub atom-tables : (d : List ℕ) → take (c .atoms * 5 + 5) d ≡ take (c .atoms * 5) bs ++ (kind ∷ from ∷ to ∷ bound ∷ variable ∷ [])
-      → Tables (addAtom p (atomIn f at)) (record { nodes = c .nodes; variables = c .variables; edges = c .edges; atoms = c .atoms + 1; clauses = c .clauses; literals = c .literals }) es d cs
+  atom-tables : (d : List ℕ) → AtomStored c bs d (atomIn f at) → Tables (addAtom p (atomIn f at)) (oneAtom c) es d cs
   atom-tables d h =
       let n : (c .atoms + 1) * 5 ≡ c .atoms * 5 + 5 = omega arith in
-      let k : take (c .atoms * 5) bs ++ (kind ∷ from ∷ to ∷ bound ∷ variable ∷ []) ≡ flatAtoms (p .atoms) ++ (getD f (at + 3) 0 ∷ word f (at + 4) ∷ word f (at + 6) ∷ word f (at + 8) ∷ word f (at + 10) ∷ []) = cc in
       record {
         nodes = t .nodes;
         variables = t .variables;
         edges = t .edges;
-        atoms = length-snoc (p .atoms) (atomIn f at) ∙ ap (λ (x : ℕ). x + 1) (t .atoms);
+        atoms = length-snoc (p .atoms) (atomIn f at) ∙ ap (λ x. x + 1) (t .atoms);
         clauses = t .clauses;
         literals = t .literals;
         edgeRows = t .edgeRows;
-        atomRows = ap (λ (x : ℕ). take x d) n ∙ h ∙ k ∙ sym (flat-atom (p .atoms) (atomIn f at));
+        atomRows = ap (λ x. take x d) n ∙ h ∙ simp (t .atomRows, flat-atom);
         clauseRows = t .clauseRows;
       }
 
--- clauses
-len-short : (n : ℕ) → n < 2 → clauseLen n ≡ false
-unfolding clauseLen
-len-short n h = ap (λ (b : Bool). b && eqb (n / 2 * 2) n) (lt-leb 2 n h)
-
-len-odd : (n : ℕ) → 2 ≤ n → (n / 2 * 2 ≡ n → ⊥) → clauseLen n ≡ false
-unfolding clauseLen
-len-odd n h o = ap (λ (b : Bool). b && eqb (n / 2 * 2) n) (le-leb 2 n h) ∙ ne-eqb _ _ o
-
-len-even : (n : ℕ) → 2 ≤ n → n / 2 * 2 ≡ n → clauseLen n ≡ true
-unfolding clauseLen
-len-even n h e = ap (λ (b : Bool). b && eqb (n / 2 * 2) n) (le-leb 2 n h) ∙ eq-eqb _ _ e
-
-module _ (f : List ℕ) (at : ℕ) (p : PlanFile) {len : ℕ} (l : lenAt f at ≡ len) where
-  pub clause-short : len < 2 → clauseAt f at p ≡ refuse 5 at
-  unfolding clauseAt
-  clause-short h = no _ _ _ (ap clauseLen l ∙ len-short len h)
-
-  pub clause-odd : 2 ≤ len → (len / 2 * 2 ≡ len → ⊥) → clauseAt f at p ≡ refuse 5 at
-  unfolding clauseAt
-  clause-odd h o = no _ _ _ (ap clauseLen l ∙ len-odd len h o)
-
-module _ (f : List ℕ) (at : ℕ) {p : PlanFile} {c : counted.Plan} {es bs : List ℕ} {cs : List ℤ} (t : Tables p c es bs cs) {len : ℕ} (l : lenAt f at ≡ len) (h : 2 ≤ len) (e : len / 2 * 2 ≡ len) where
-  even : clauseLen (lenAt f at) ≡ true
-  even = ap clauseLen l ∙ len-even len h e
-
-  literals-in : clauseIn f at ≡ literalsIn f (at + 3) (len / 2)
-  literals-in = ap (λ (n : ℕ). literalsIn f (at + 3) (n / 2)) l
-
-  literals-ok : literalsOk (p .variables) (clauseIn f at) ≡ literalsOk (c .variables) (literalsIn f (at + 3) (len / 2))
-  literals-ok = ap (literalsOk (p .variables)) literals-in ∙ ap (λ (v : ℕ). literalsOk v (literalsIn f (at + 3) (len / 2))) (t .variables)
-
-  pub clause-range : literalsOk (c .variables) (literalsIn f (at + 3) (len / 2)) ≡ false → clauseAt f at p ≡ refuse 6 at
-  unfolding clauseAt
-  clause-range r = yes _ _ _ even ∙ no _ _ _ (literals-ok ∙ r)
-
-  half : literals (p .clauses) + lenAt f at / 2 ≡ c .literals + len / 2
-  half = ap (λ (n : ℕ). literals (p .clauses) + n / 2) l ∙ ap (λ (n : ℕ). n + len / 2) (t .literals)
-
-  pub clause-many : literalsOk (c .variables) (literalsIn f (at + 3) (len / 2)) ≡ true → 1024 ≤ c .clauses → clauseAt f at p ≡ refuse 7 at
-  unfolding clauseAt
-  clause-many r m = yes _ _ _ even ∙ yes _ _ _ (literals-ok ∙ r) ∙ no _ _ _ (ap (λ (b : Bool). b && leb (literals (p .clauses) + lenAt f at / 2) 4096) (le-ltb (length (p .clauses)) 1024 (omega (arith, t .clauses))))
-
-  pub clause-full : literalsOk (c .variables) (literalsIn f (at + 3) (len / 2)) ≡ true → c .clauses < 1024 → 4096 < c .literals + len / 2 → clauseAt f at p ≡ refuse 7 at
-  unfolding clauseAt
-  clause-full r m k = yes _ _ _ even ∙ yes _ _ _ (literals-ok ∙ r) ∙ no _ _ _ (ap (λ (b : Bool). b && leb (literals (p .clauses) + lenAt f at / 2) 4096) (lt-ltb (length (p .clauses)) 1024 (omega (arith, t .clauses))) ∙ ap (λ (n : ℕ). leb n 4096) half ∙ lt-leb _ _ k)
-
-  pub clause-next : literalsOk (c .variables) (literalsIn f (at + 3) (len / 2)) ≡ true → c .clauses < 1024 → c .literals + len / 2 ≤ 4096 → clauseAt f at p ≡ next (after f at) (addClause p (clauseIn f at))
-  unfolding clauseAt
-  clause-next r m k = yes _ _ _ even ∙ yes _ _ _ (literals-ok ∙ r) ∙ yes _ _ _ (ap (λ (b : Bool). b && leb (literals (p .clauses) + lenAt f at / 2) 4096) (lt-ltb (length (p .clauses)) 1024 (omega (arith, t .clauses))) ∙ ap (λ (n : ℕ). leb n 4096) half ∙ le-leb _ _ k)
-
-  pub clause-tables : (d : List ℤ) → take (c .literals + c .clauses + len / 2 + 1) d ≡ take (c .literals + c .clauses) cs ++ literalsIn f (at + 3) (len / 2) ++ (pos 0 ∷ [])
-      → Tables (addClause p (clauseIn f at)) (record { nodes = c .nodes; variables = c .variables; edges = c .edges; atoms = c .atoms; clauses = c .clauses + 1; literals = c .literals + len / 2 }) es bs d
-  clause-tables d g =
-      let n : c .literals + len / 2 + (c .clauses + 1) ≡ c .literals + c .clauses + len / 2 + 1 = omega arith in
+  clause-tables : (d : List ℤ) → take (c .literals + c .clauses + lenAt f at / 2 + 1) d ≡ take (c .literals + c .clauses) cs ++ clauseIn f at ++ (pos 0 ∷ [])
+      → Tables (addClause p (clauseIn f at)) (oneClause (lenAt f at / 2) c) es bs d
+  clause-tables d h =
+      let n : c .literals + lenAt f at / 2 + (c .clauses + 1) ≡ c .literals + c .clauses + lenAt f at / 2 + 1 = omega arith in
       record {
         nodes = t .nodes;
         variables = t .variables;
         edges = t .edges;
         atoms = t .atoms;
-        clauses = length-snoc (p .clauses) (clauseIn f at) ∙ ap (λ (x : ℕ). x + 1) (t .clauses);
-        literals = count-clause (p .clauses) (clauseIn f at) ∙ ap (λ (x : ℕ). literals (p .clauses) + x) (literals-length f (at + 3) (lenAt f at / 2)) ∙ half;
+        clauses = length-snoc (p .clauses) (clauseIn f at) ∙ ap (λ x. x + 1) (t .clauses);
+        literals = count-clause (p .clauses) (clauseIn f at) ∙ simp (t .literals, literals-length);
         edgeRows = t .edgeRows;
         atomRows = t .atomRows;
-        clauseRows = ap (λ (x : ℕ). take x d) n ∙ g ∙ ap (λ (x : List ℤ). x ++ literalsIn f (at + 3) (len / 2) ++ (pos 0 ∷ [])) (t .clauseRows)
-            ∙ ap (λ (x : List ℤ). flat (p .clauses) ++ x ++ (pos 0 ∷ [])) (sym literals-in) ∙ sym (flat-clause (p .clauses) (clauseIn f at));
+        clauseRows = ap (λ x. take x d) n ∙ h ∙ simp (t .clauseRows, flat-clause);
       }
 
--- a record's room
-pub fits-head : (f : List ℕ) (at : ℕ) → length f < at + 3 → fits f at ≡ false
+more-room : {c : counted.Plan} → c .nodes ≤ maxNodes → c .variables ≤ maxVariables → c .edges ≤ maxEdges → c .atoms ≤ maxAtoms
+    → c .clauses ≤ maxClauses → c .literals ≤ maxLiterals → Room c
+more-room n v e a k l = record { nodes = n; variables = v; edges = e; atoms = a; clauses = k; literals = l }
+
+-- what the code's number says, for an edge, an atom and a clause: the number is that of the tests, and with 0 the row was stored
+module _ (f : List ℕ) (at : ℕ) (c : counted.Plan) (r : ℕ) (o : Room c) where
+  pub edge-took : (es bs es′ : List ℕ) → r ≡ edgeFault f at c bs → (r ≡ 0 → EdgeStored c es es′ (edgeIn f at)) → EdgeRead f at c es bs r es′
+  edge-took es bs es′ e h cs =
+      took (eqb (lenAt f at) 6) (edgeOk (c .nodes) (c .variables) (edgeIn f at)) (ltb (c .edges) 256)
+      (not (lastIs 4 4 (take (c .atoms * 5) bs) (word f (at + 7)))) e
+      (λ b. more-room (o .nodes) (o .variables) (omega (arith, ltb-true (c .edges) 256 b)) (o .atoms) (o .clauses) (o .literals))
+      (λ p t. edge-step f at t)
+      (λ z p t. edge-tables f at t es′ (h z))
+
+  pub atom-took : (es bs bs′ : List ℕ) → r ≡ atomFault f at c es → (r ≡ 0 → AtomStored c bs bs′ (atomIn f at)) → AtomRead f at c es bs r bs′
+  atom-took es bs bs′ e h cs =
+      took (eqb (lenAt f at) 9) (atomOk (c .nodes) (c .variables) (atomIn f at)) (ltb (c .atoms) 64)
+      (not (lastIs 2 2 (take (c .edges * 3) es) (word f (at + 10)))) e
+      (λ b. more-room (o .nodes) (o .variables) (o .edges) (omega (arith, ltb-true (c .atoms) 64 b)) (o .clauses) (o .literals))
+      (λ p t. atom-step f at t)
+      (λ z p t. atom-tables f at t bs′ (h z))
+
+  pub clause-took : (cs cs′ : List ℤ) → r ≡ clauseFault f at c
+      → (r ≡ 0 → take (c .literals + c .clauses + lenAt f at / 2 + 1) cs′ ≡ take (c .literals + c .clauses) cs ++ clauseIn f at ++ (pos 0 ∷ []))
+      → ClauseRead f at c cs r cs′
+  clause-took cs cs′ e h es bs =
+      took (clauseLen (lenAt f at)) (literalsOk (c .variables) (clauseIn f at)) (ltb (c .clauses) 1024 && leb (c .literals + lenAt f at / 2) 4096) true e
+      (λ b.
+      let q = and-eq-true-iff (ltb (c .clauses) 1024) (leb (c .literals + lenAt f at / 2) 4096) .0 b in
+      more-room (o .nodes) (o .variables) (o .edges) (o .atoms) (omega (arith, ltb-true (c .clauses) 1024 (q .0))) (leb-true _ _ (q .1)))
+      (λ p t. clause-step f at t)
+      (λ z p t. clause-tables f at t cs′ (h z))
+
+-- a record that fits ends in the file
+pub fits-is : (f : List ℕ) (at : ℕ) → fits f at ≡ true → after f at ≤ length f
 unfolding fits
-fits-head f at h = ap (λ (b : Bool). b && leb (after f at) (length f)) (lt-leb (at + 3) (length f) h)
+fits-is f at h = leb-true _ _ (and-eq-true-iff (leb (at + 3) (length f)) (leb (after f at) (length f)) .0 h .1)
 
-pub fits-value : (f : List ℕ) (at : ℕ) → at + 3 ≤ length f → length f < after f at → fits f at ≡ false
-unfolding fits
-fits-value f at h k = ap (λ (b : Bool). b && leb (after f at) (length f)) (le-leb (at + 3) (length f) h) ∙ lt-leb (after f at) (length f) k
+-- the head's number, where it is not 0
+pub head-stops : (f : List ℕ) (r : ℕ) → 1 ≤ r → r ≤ 8 → headAt f ≡ refuse r 0 → HeadRead f r
+head-stops f r l h e = record {
+  number = λ n. record { low = l; high = h; whole = λ i. refl };
+  fit = λ z. absurd (omega arith);
+  range = λ z. absurd (omega arith);
+  step = e ∙ sym (ap (λ b. check b r 0 (next 7 (emptyPlan (word f 3) (word f 5)))) (ne-eqb r 0 (λ z. omega arith)));
+}
 
-pub fits-yes : (f : List ℕ) (at : ℕ) → after f at ≤ length f → fits f at ≡ true
-unfolding fits
-fits-yes f at k = ap (λ (b : Bool). b && leb (after f at) (length f)) (le-leb (at + 3) (length f) (omega arith)) ∙ le-leb (after f at) (length f) k
+-- A record by its tag: one that is refused whatever the tables hold, one of a sort, one that ends the file.
+module _ (f : List ℕ) (at : ℕ) (c : counted.Plan) {es bs es′ bs′ : List ℕ} {cs cs′ : List ℤ} {r : ℕ} where
+  pub record-stops : 2 ≤ r → r ≤ 8 → ((p : PlanFile) → stepAt f at p ≡ refuse r at) → RecordRead f at c es bs cs r es′ bs′ cs′
+  record-stops l h e = record {
+    fit = λ z. absurd (omega arith);
+    took = record {
+      number = λ n. numbered r at l h;
+      room = λ z. absurd (omega arith);
+      step = λ p t. e p ∙ sym (ap (λ b. check b r at (led f at p)) (ne-eqb r 0 (λ z. omega arith)));
+      tables = λ z p t. absurd (omega arith);
+    };
+  }
 
-module _ (f : List ℕ) (at : ℕ) (p : PlanFile) where
-  pub step-cut : fits f at ≡ false → stepAt f at p ≡ refuse 2 at
-  unfolding stepAt
-  step-cut h = no _ _ _ h
+  module _ (w : fits f at ≡ true) where
+    record-by : {s l : PlanFile → Step} {a : PlanFile → PlanFile} {d : counted.Plan} → ((p : PlanFile) → stepAt f at p ≡ s p)
+        → ((p : PlanFile) → l p ≡ led f at p) → ((p : PlanFile) → a p ≡ added f at p) → d ≡ oneMore f at c
+        → Took at s l a c d es bs cs r es′ bs′ cs′ → RecordRead f at c es bs cs r es′ bs′ cs′
+    record-by {a = a} se le ae de k = record {
+      fit = λ z. fits-is f at w;
+      took = record {
+        number = k .number;
+        room = λ z. subst Room de (k .room z);
+        step = λ p t. se p ∙ k .step p t ∙ ap (check (eqb r 0) r at) (le p);
+        tables = λ z p t. subst (λ q. Tables q (oneMore f at c) es′ bs′ cs′) (ae p) (subst (λ d. Tables (a p) d es′ bs′ cs′) de (k .tables z p t));
+      };
+    }
 
-  pub step-tag : (n : ℕ) → fits f at ≡ true → tagAt f at ≡ n → stepAt f at p ≡ tagged n f at p
-  unfolding stepAt
-  step-tag n h e = yes _ _ _ h ∙ ap (λ (x : ℕ). tagged x f at p) e
+module _ (f : List ℕ) (at : ℕ) (c : counted.Plan) {es bs : List ℕ} {cs : List ℤ} {r : ℕ} (w : fits f at ≡ true) where
+  pub record-edge : {es′ : List ℕ} → tagAt f at ≡ 2 → EdgeRead f at c es bs r es′ → RecordRead f at c es bs cs r es′ bs cs
+  unfolding stepAt led added oneMore
+  record-edge e k = record-by f at c w (λ p. simp (w, e)) (λ p. simp e) (λ p. simp e) (simp e) (k cs)
 
-  pub step-unknown : (n : ℕ) → fits f at ≡ true → tagAt f at ≡ n → (n ≡ 1 → ⊥) → (n ≡ 2 → ⊥) → (n ≡ 3 → ⊥) → (n ≡ 4 → ⊥) → (n ≡ 5 → ⊥) → stepAt f at p ≡ refuse 4 at
-  step-unknown n h e h1 h2 h3 h4 h5 = step-tag n h e ∙ simp (ne-eqb n 1 h1, ne-eqb n 2 h2, ne-eqb n 3 h3, ne-eqb n 4 h4, ne-eqb n 5 h5)
+  pub record-atom : {bs′ : List ℕ} → tagAt f at ≡ 3 → AtomRead f at c es bs r bs′ → RecordRead f at c es bs cs r es bs′ cs
+  unfolding stepAt led added oneMore
+  record-atom e k = record-by f at c w (λ p. simp (w, e)) (λ p. simp e) (λ p. simp e) (simp e) (k cs)
 
-module _ (f : List ℕ) where
-  pub head-long : 16384 < length f → headAt f ≡ refuse 1 0
-  unfolding headAt
-  head-long h = no _ _ _ (lt-leb (length f) 16384 h)
+  pub record-clause : {cs′ : List ℤ} → tagAt f at ≡ 4 → ClauseRead f at c cs r cs′ → RecordRead f at c es bs cs r es bs cs′
+  unfolding stepAt led added oneMore
+  record-clause e k = record-by f at c w (λ p. simp (w, e)) (λ p. simp e) (λ p. simp e) (simp e) (k es bs)
 
-  module _ (s : length f ≤ 16384) where
-    pub head-cut : fits f 0 ≡ false → headAt f ≡ refuse 2 0
-    unfolding headAt
-    head-cut h = yes _ _ _ (le-leb (length f) 16384 s) ∙ no _ _ _ h
-
-    module _ (r : fits f 0 ≡ true) where
-      pub head-tag : (tagAt f 0 ≡ 1 → ⊥) → headAt f ≡ refuse 3 0
-      unfolding headAt
-      head-tag h = yes _ _ _ (le-leb (length f) 16384 s) ∙ yes _ _ _ r ∙ no _ _ _ (ne-eqb _ _ h)
-
-      module _ (g : tagAt f 0 ≡ 1) where
-        pub head-len : (lenAt f 0 ≡ 4 → ⊥) → headAt f ≡ refuse 5 0
-        unfolding headAt
-        head-len h = yes _ _ _ (le-leb (length f) 16384 s) ∙ yes _ _ _ r ∙ yes _ _ _ (eq-eqb _ _ g) ∙ no _ _ _ (ne-eqb _ _ h)
-
-        pub head-range : lenAt f 0 ≡ 4 → headOk (word f 3) (word f 5) ≡ false → headAt f ≡ refuse 6 0
-        unfolding headAt
-        head-range l h = yes _ _ _ (le-leb (length f) 16384 s) ∙ yes _ _ _ r ∙ yes _ _ _ (eq-eqb _ _ g) ∙ yes _ _ _ (eq-eqb _ _ l) ∙ no _ _ _ h
-
-        pub head-next : lenAt f 0 ≡ 4 → headOk (word f 3) (word f 5) ≡ true → headAt f ≡ next 7 (emptyPlan (word f 3) (word f 5))
-        unfolding headAt
-        head-next l h = yes _ _ _ (le-leb (length f) 16384 s) ∙ yes _ _ _ r ∙ yes _ _ _ (eq-eqb _ _ g) ∙ yes _ _ _ (eq-eqb _ _ l) ∙ yes _ _ _ h
-
-pub empty-tables : (n v n′ v′ : ℕ) (es bs : List ℕ) (cs : List ℤ) → n ≡ n′ → v ≡ v′ → Tables (emptyPlan n v) (record { nodes = n′; variables = v′; edges = 0; atoms = 0; clauses = 0; literals = 0 }) es bs cs
-unfolding flatEdges flatAtoms flat literals
-empty-tables n v n′ v′ es bs cs a b =
-    record { nodes = a; variables = b; edges = refl; atoms = refl; clauses = refl; literals = refl; edgeRows = refl; atomRows = refl; clauseRows = refl }
-
-pub head-seen : (f : List ℕ) {n v : ℕ} {b : Bool} → n ≡ word f 3 → v ≡ word f 5 → b ≡ headOk n v → headOk (word f 3) (word f 5) ≡ b
-head-seen f e g h = cc
-
-pub head-room : (n v : ℕ) → headOk n v ≡ true → (n ≤ 64) × (v ≤ 512)
-unfolding headOk
-head-room n v h =
-    let a = and-eq-true-iff (leb 1 n && leb n 64 && leb 1 v) (leb v 512) .0 h in
-    let b = and-eq-true-iff (leb 1 n && leb n 64) (leb 1 v) .0 (a .0) in
-    let d = and-eq-true-iff (leb 1 n) (leb n 64) .0 (b .0) in
-    (leb-true n 64 (d .1), leb-true v 512 (a .1))
+pub record-end : (f : List ℕ) (at : ℕ) (c : counted.Plan) (es bs : List ℕ) (cs : List ℤ) → Room c → fits f at ≡ true → tagAt f at ≡ 5 → lenAt f at ≡ 0
+    → RecordRead f at c es bs cs 0 es bs cs
+unfolding stepAt endAt led added oneMore
+record-end f at c es bs cs o w e l = record {
+  fit = λ z. fits-is f at w;
+  took = record { number = λ n. absurd (n refl); room = λ z. simp e o; step = λ p t. simp (w, e, l); tables = λ z p t. simp e t };
+}

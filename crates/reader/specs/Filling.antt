@@ -1,21 +1,18 @@
 -- A plan in flat tables, and what the reader's answers say of them.
 -- Assumes nothing.
-use Prim.Native.Nat.{ℕ, _+_, _*_, _≤_, _<_}
+use Prim.Native.Nat.{ℕ, zero, suc, _+_, _*_, _/_, _≤_, _<_}
 use mathlib.Core.Path.{_≡_}
-use mathlib.Core.Bool.{Bool, true, false, _||_}
-use mathlib.Core.List.{List, [], _∷_, _++_}
+use mathlib.Core.Bool.{Bool, true, false, _||_, cond}
+use mathlib.Core.List.{List, [], _∷_}
 use lib.Dec.{eqb}
-use lib.IntN.{ℤ, pos}
+use lib.IntN.{ℤ}
 use lib.ListN.{length, take}
 use Rattle.plan.specs.Meaning.{Edge, Atom, PlanFile}
-use Rattle.reader.specs.Format.{Step, refuse, next, done, Reading, refused, accepted, edgeAt, atomAt, clauseAt, endAt, stepAt, headAt, records}
+use Rattle.reader.specs.Format.{Step, next, done, check, pick, Reading, refused, accepted, onward, word, tagAt, lenAt, after, headOk, edgeIn, atomIn, clauseIn, addEdge, addAtom, addClause, emptyPlan, edgeAt, atomAt, clauseAt, stepAt, headAt, records}
 use Rattle.plan.specs.Ranged.{maxNodes, maxVariables, maxEdges, maxAtoms, maxClauses, maxLiterals, literals}
 use Rattle.plan.specs.Written.{flat}
-use Rattle.plan.specs.declared.Refusal.{Refusal}
 use Rattle.plan.specs.Refusals.{numberOf, valueOf}
 use Rattle.plan.specs.declared.Plan as counted
-use Rattle.reader.specs.declared.Move.{Move}
-use Rattle.reader.specs.declared.Move.the-variants.{Stopped, Next, Done}
 use Rattle.reader.specs.declared.ReadAnswer.{ReadAnswer}
 use Rattle.reader.specs.declared.ReadAnswer.the-variants.{Accepted, Refused}
 
@@ -48,68 +45,90 @@ pub record Tables (p : PlanFile) (c : counted.Plan) (es bs : List ℕ) (cs : Lis
   pub atomRows : take (c .atoms * 5) bs ≡ flatAtoms (p .atoms)
   pub clauseRows : take (c .literals + c .clauses) cs ≡ flat (p .clauses)
 
--- a move to the next record
-pub record Onward (f : List ℕ) (at a : ℕ) (c : counted.Plan) : Type 0 where
-  pub more : at < a
-  pub within : a ≤ length f
-  pub room : Room c
-
--- what a move of the code says of a step of the definition
-abbrev pub Moves : List ℕ → ℕ → Step → Move → List ℕ → List ℕ → List ℤ → Type 0
-Moves f at (refuse n v) (Stopped y) es bs cs = (n ≡ numberOf y) × (v ≡ valueOf y)
-Moves f at (refuse n v) (Next a c) es bs cs = ⊥
-Moves f at (refuse n v) (Done c) es bs cs = ⊥
-Moves f at (next b p) (Stopped y) es bs cs = ⊥
-Moves f at (next b p) (Next a c) es bs cs = (b ≡ a) × Onward f at a c × Tables p c es bs cs
-Moves f at (next b p) (Done c) es bs cs = ⊥
-Moves f at (done p) (Stopped y) es bs cs = ⊥
-Moves f at (done p) (Next a c) es bs cs = ⊥
-Moves f at (done p) (Done c) es bs cs = Tables p c es bs cs
-
+-- What a read answer says of a reading.
 abbrev pub Answers : Reading → ReadAnswer → List ℕ → List ℕ → List ℤ → Type 0
 Answers (refused n v) (Refused y) es bs cs = (n ≡ numberOf y) × (v ≡ valueOf y)
 Answers (refused n v) (Accepted c) es bs cs = ⊥
 Answers (accepted p) (Refused y) es bs cs = ⊥
 Answers (accepted p) (Accepted c) es bs cs = Tables p c es bs cs
 
--- some third (fifth) number of a row of three (five) is v
-unfoldable pub thirds : List ℕ → ℕ → Bool
-thirds [] v = false
-thirds (a ∷ []) v = false
-thirds (a ∷ b ∷ []) v = false
-thirds (a ∷ b ∷ c ∷ t) v = eqb c v || thirds t v
+-- Some row of a flat table ends in v. A row is n numbers and a last one; k of them come before the next last one.
+unfoldable pub lastIs : ℕ → ℕ → List ℕ → ℕ → Bool
+lastIs n k [] v = false
+lastIs n zero (x ∷ l) v = eqb x v || lastIs n n l v
+lastIs n (suc k) (x ∷ l) v = lastIs n k l v
 
-unfoldable pub fifths : List ℕ → ℕ → Bool
-fifths [] v = false
-fifths (a ∷ []) v = false
-fifths (a ∷ b ∷ []) v = false
-fifths (a ∷ b ∷ c ∷ []) v = false
-fifths (a ∷ b ∷ c ∷ d ∷ []) v = false
-fifths (a ∷ b ∷ c ∷ d ∷ e ∷ t) v = eqb e v || fifths t v
+-- The counts with one more of a sort.
+abbrev pub oneEdge : counted.Plan → counted.Plan
+oneEdge c = record { nodes = c .nodes; variables = c .variables; edges = c .edges + 1; atoms = c .atoms; clauses = c .clauses; literals = c .literals }
 
--- some plan stands in the tables
-pub record Stands (c : counted.Plan) (es bs : List ℕ) (cs : List ℤ) : Type 0 where
-  pub plan : PlanFile
-  pub tables : Tables plan c es bs cs
+abbrev pub oneAtom : counted.Plan → counted.Plan
+oneAtom c = record { nodes = c .nodes; variables = c .variables; edges = c .edges; atoms = c .atoms + 1; clauses = c .clauses; literals = c .literals }
 
--- what the code's functions promise: of every plan that stands in the tables before, what the record's step says of it stands there after
-abbrev pub HeadRead : List ℕ → Move → Type 0
-HeadRead f r = (es bs : List ℕ) (cs : List ℤ) → Moves f 0 (headAt f) r es bs cs
+abbrev pub oneClause : ℕ → counted.Plan → counted.Plan
+oneClause n c = record { nodes = c .nodes; variables = c .variables; edges = c .edges; atoms = c .atoms; clauses = c .clauses + 1; literals = c .literals + n }
 
-abbrev pub EdgeRead : List ℕ → ℕ → counted.Plan → List ℕ → List ℕ → Move → List ℕ → Type 0
-EdgeRead f at c es bs r es′ = (p : PlanFile) (cs : List ℤ) → Tables p c es bs cs → Moves f at (edgeAt f at p) r es′ bs cs
+-- The counts and the plan file with the record at an offset, by its tag; and where that record leads if nothing in it is refused.
+abbrev pub byTag : {A : Type 0} → ℕ → A → A → A → A → A
+byTag tag edge atom clause other = cond (eqb tag 2) edge (cond (eqb tag 3) atom (cond (eqb tag 4) clause other))
 
-abbrev pub AtomRead : List ℕ → ℕ → counted.Plan → List ℕ → List ℕ → Move → List ℕ → Type 0
-AtomRead f at c es bs r bs′ = (p : PlanFile) (cs : List ℤ) → Tables p c es bs cs → Moves f at (atomAt f at p) r es bs′ cs
+unfoldable pub oneMore : List ℕ → ℕ → counted.Plan → counted.Plan
+oneMore f at c = byTag (tagAt f at) (oneEdge c) (oneAtom c) (oneClause (lenAt f at / 2) c) c
 
-abbrev pub ClauseRead : List ℕ → ℕ → counted.Plan → List ℤ → Move → List ℤ → Type 0
-ClauseRead f at c cs r cs′ = (p : PlanFile) (es bs : List ℕ) → Tables p c es bs cs → Moves f at (clauseAt f at p) r es bs cs′
+unfoldable pub added : List ℕ → ℕ → PlanFile → PlanFile
+added f at p = byTag (tagAt f at) (addEdge p (edgeIn f at)) (addAtom p (atomIn f at)) (addClause p (clauseIn f at)) p
 
-abbrev pub EndRead : List ℕ → ℕ → counted.Plan → Move → Type 0
-EndRead f at c r = (p : PlanFile) (es bs : List ℕ) (cs : List ℤ) → Tables p c es bs cs → Moves f at (endAt f at p) r es bs cs
+unfoldable pub led : List ℕ → ℕ → PlanFile → Step
+led f at p = pick (eqb (tagAt f at) 5) (check (eqb (length f) (at + 3)) 3 (at + 3) (done p)) (next (after f at) (added f at p))
 
-abbrev pub RecordRead : List ℕ → ℕ → counted.Plan → List ℕ → List ℕ → List ℤ → Move → List ℕ → List ℕ → List ℤ → Type 0
-RecordRead f at c es bs cs r es′ bs′ cs′ = (p : PlanFile) → Tables p c es bs cs → Moves f at (stepAt f at p) r es′ bs′ cs′
+-- A number that the code returns stands for a refusal, and that one's value is v.
+pub record Numbered (n v : ℕ) : Type 0 where
+  pub low : 1 ≤ n
+  pub high : n ≤ 8
+  pub whole : n ≡ 1 → v ≡ 0
+
+abbrev pub RefusedBy : ℕ → ℕ → ReadAnswer → Type 0
+RefusedBy n v (Refused y) = (n ≡ numberOf y) × (v ≡ valueOf y)
+RefusedBy n v (Accepted c) = ⊥
+
+-- The counts behind the head.
+abbrev pub start : List ℕ → counted.Plan
+start f = record { nodes = word f 3; variables = word f 5; edges = 0; atoms = 0; clauses = 0; literals = 0 }
+
+-- What taking a record at an offset says, by the number r that is returned: not 0, the record's step `s` is that refusal; 0, the step leads to
+-- `l`, and for every plan file that stood in the tables before, with the counts c, the plan file `a` stands there after, with the counts d.
+pub record Took (at : ℕ) (s l : PlanFile → Step) (a : PlanFile → PlanFile) (c d : counted.Plan) (es bs : List ℕ) (cs : List ℤ) (r : ℕ) (es′ bs′ : List ℕ) (cs′ : List ℤ) : Type 0 where
+  pub number : (r ≡ 0 → ⊥) → Numbered r at
+  pub room : r ≡ 0 → Room d
+  pub step : (p : PlanFile) → Tables p c es bs cs → s p ≡ check (eqb r 0) r at (l p)
+  pub tables : r ≡ 0 → (p : PlanFile) → Tables p c es bs cs → Tables (a p) d es′ bs′ cs′
+
+-- What the code's functions promise.
+abbrev pub EdgeRead : List ℕ → ℕ → counted.Plan → List ℕ → List ℕ → ℕ → List ℕ → Type 0
+EdgeRead f at c es bs r es′ =
+    (cs : List ℤ) → Took at (edgeAt f at) (λ p. next (after f at) (addEdge p (edgeIn f at))) (λ p. addEdge p (edgeIn f at)) c (oneEdge c) es bs cs r es′ bs cs
+
+abbrev pub AtomRead : List ℕ → ℕ → counted.Plan → List ℕ → List ℕ → ℕ → List ℕ → Type 0
+AtomRead f at c es bs r bs′ =
+    (cs : List ℤ) → Took at (atomAt f at) (λ p. next (after f at) (addAtom p (atomIn f at))) (λ p. addAtom p (atomIn f at)) c (oneAtom c) es bs cs r es bs′ cs
+
+abbrev pub ClauseRead : List ℕ → ℕ → counted.Plan → List ℤ → ℕ → List ℤ → Type 0
+ClauseRead f at c cs r cs′ =
+    (es bs : List ℕ) → Took at (clauseAt f at) (λ p. next (after f at) (addClause p (clauseIn f at))) (λ p. addClause p (clauseIn f at)) c (oneClause (lenAt f at / 2) c) es bs cs r es bs cs′
+
+pub record RecordRead (f : List ℕ) (at : ℕ) (c : counted.Plan) (es bs : List ℕ) (cs : List ℤ) (r : ℕ) (es′ bs′ : List ℕ) (cs′ : List ℤ) : Type 0 where
+  pub fit : r ≡ 0 → after f at ≤ length f
+  pub took : Took at (stepAt f at) (led f at) (added f at) c (oneMore f at c) es bs cs r es′ bs′ cs′
+
+pub record HeadRead (f : List ℕ) (r : ℕ) : Type 0 where
+  pub number : (r ≡ 0 → ⊥) → Numbered r 0
+  pub fit : r ≡ 0 → 7 ≤ length f
+  pub range : r ≡ 0 → headOk (word f 3) (word f 5) ≡ true
+  pub step : headAt f ≡ check (eqb r 0) r 0 (next 7 (emptyPlan (word f 3) (word f 5)))
+
+abbrev pub EndRead : List ℕ → ℕ → counted.Plan → ReadAnswer → Type 0
+EndRead f at c r =
+    (g : ℕ → PlanFile → Reading) (p : PlanFile) (es bs : List ℕ) (cs : List ℤ) → Tables p c es bs cs → Answers (onward g (check (eqb (length f) at) 3 at (done p))) r es bs cs
 
 -- k turns are enough
 abbrev pub RestRead : List ℕ → ℕ → counted.Plan → List ℕ → List ℕ → List ℤ → ReadAnswer → List ℕ → List ℕ → List ℤ → Type 0

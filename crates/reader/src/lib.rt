@@ -1,23 +1,37 @@
 use plan::Atom;
 use plan::Clause;
+use plan::Edge;
 use plan::Plan;
 use plan::Refusal;
 use plan::wide;
 ghost use mathlib.Core.Path.{_≡_};
-ghost use mathlib.Core.List.{List, [], _∷_, _++_};
-ghost use mathlib.Core.Bool.{_&&_, not};
-ghost use Prim.Native.Nat.{ℕ, _+_, _*_, _-_, _/_, _<_, _≤_};
-ghost use lib.IntN.{ℤ, pos};
-ghost use lib.ListN.{length, getD, take, drop};
-ghost use Rattle.reader.specs.Format.{word, twos, headOk, endsOk, kindOk, literalOk, literalsOk, literalsIn, lenAt, readPlan};
-ghost use Rattle.reader.specs.Filling.{Room, Stands, Answers, HeadRead, EdgeRead, AtomRead, ClauseRead, EndRead, RecordRead, RestRead, thirds, fifths};
+ghost use mathlib.Core.List.{[], _∷_, _++_};
+ghost use Prim.Native.Nat.{_+_, _*_, _<_, _≤_};
+ghost use lib.IntN.{pos};
+ghost use lib.ListN.{length, take};
+ghost use Rattle.plan.specs.Refusals.{numberOf, valueOf};
+ghost use Rattle.plan.specs.Tables.{edgeOf, atomOf};
+ghost use Rattle.reader.specs.Format.{word, twos, after, fits, headOk, endsOk, kindOk, literalOk, literalsOk, literalsIn, edgeIn, atomIn, readPlan};
+ghost use Rattle.reader.specs.Filling.{Room, Answers, Numbered, RefusedBy, HeadRead, EdgeRead, AtomRead, ClauseRead, RecordRead, EndRead, RestRead, lastIs, oneMore, start};
 
-// What a record leads to.
-pub enum Move {
-    Stopped(Refusal),
-    Next(usize, Plan),
-    Done(Plan),
-}
+// The numbers that document 01 gives the refusals of a file; NONE is no refusal.
+const NONE: u8 = 0;
+
+const TOO_LONG: u8 = 1;
+
+const CUT: u8 = 2;
+
+const MISPLACED: u8 = 3;
+
+const UNKNOWN_TAG: u8 = 4;
+
+const BAD_LENGTH: u8 = 5;
+
+const OUT_OF_RANGE: u8 = 6;
+
+const TOO_MANY: u8 = 7;
+
+const SHARED: u8 = 8;
 
 pub enum ReadAnswer {
     Refused(Refusal),
@@ -32,11 +46,18 @@ fn word(file: &[u8], i: usize) -> u16
     (file[i] as u16) * 256 + (file[i + 1] as u16)
 }
 
-fn byte(file: &[u8], i: usize) -> u16
-    requires { ⌜ i < length (now file) ⌝ }
-    ensures { λ r. ⌜ r ≡ getD (now (file .entry)) i 0 ⌝ }
+// The file has room for the record at an offset: for its 3 head bytes and its value.
+fn record_fits(file: &[u8], at: usize) -> bool
+    requires { ⌜ at ≤ length (now file) ⌝ }
+    ensures { λ r. ⌜ r ≡ fits (now (file .entry)) at ⌝ }
 {
-    file[i] as u16
+    if file.len() - at < 3 {
+        return false;
+    }
+    if file.len() - at - 3 < wide(word(file, at + 1)) {
+        return false;
+    }
+    true
 }
 
 // 16 bits as a signed number.
@@ -92,23 +113,6 @@ fn kind_ok(kind: u16, bound: u16) -> bool
     false
 }
 
-fn atom_ok(
-    nodes: u16,
-    variables: u16,
-    kind: u16,
-    from: u16,
-    to: u16,
-    bound: u16,
-    variable: u16,
-) -> bool
-    ensures { λ r. ⌜ r ≡ (kindOk kind bound && endsOk nodes variables from to variable) ⌝ }
-{
-    if !kind_ok(kind, bound) {
-        return false;
-    }
-    ends_ok(nodes, variables, from, to, variable)
-}
-
 fn literal_ok(variables: u16, x: u16) -> bool
     ensures { λ r. ⌜ r ≡ literalOk variables (twos x) ⌝ }
 {
@@ -121,7 +125,7 @@ fn literal_ok(variables: u16, x: u16) -> bool
     65535 - x < variables
 }
 
-// Every literal from i to e is in range.
+// Every one of `count` literals is in range.
 fn literals_ok(file: &[u8], from: usize, count: usize, variables: u16) -> bool
     requires { ⌜ from + count * 2 ≤ length (now file) ⌝ }
     ensures { λ r. ⌜ r ≡ literalsOk variables (literalsIn (now (file .entry)) from count) ⌝ }
@@ -155,269 +159,271 @@ fn copy_literals(file: &[u8], from: usize, count: usize, out: &mut [i16], to: us
     out[k] = 0;
 }
 
-fn edge_uses(t: &[u16], v: u16) -> bool
-    ensures { λ r. ⌜ r ≡ thirds (now (t .entry)) v ⌝ }
+// Some row of the table ends in that variable. A row is `before` numbers and the variable behind them.
+fn uses(table: &[u16], before: usize, variable: u16) -> bool
+    ensures { λ r. ⌜ r ≡ lastIs before before (now (table .entry)) variable ⌝ }
 {
-    let mut i = 0;
-    while t.len() - i > 2 {
-        if t[i + 2] == v {
+    let mut row = 0;
+    while table.len() - row > before {
+        let last = row + before;
+        if table[last] == variable {
             return true;
         }
-        i += 3;
+        row = last + 1;
     }
     false
 }
 
-fn atom_uses(t: &[u16], v: u16) -> bool
-    ensures { λ r. ⌜ r ≡ fifths (now (t .entry)) v ⌝ }
+fn edge_in(file: &[u8], at: usize) -> Edge
+    requires { ⌜ at + 9 ≤ length (now file) ⌝ }
+    ensures { λ r. ⌜ edgeOf r ≡ edgeIn (now (file .entry)) at ⌝ }
 {
-    let mut i = 0;
-    while t.len() - i > 4 {
-        if t[i + 4] == v {
-            return true;
-        }
-        i += 5;
+    Edge {
+        from: word(file, at + 3),
+        to: word(file, at + 5),
+        variable: word(file, at + 7),
     }
-    false
 }
 
-fn put_edge(t: &mut [u16], k: usize, from: u16, to: u16, variable: u16)
-    requires { ⌜ k + 3 ≤ length (now t) ⌝ }
-    ensures { λ _. ⌜ take (k + 3) (now (t .exit)) ≡ take k (now (t .entry)) ++ (from ∷ to ∷ variable ∷ []) ⌝ }
+fn atom_in(file: &[u8], at: usize) -> Atom
+    requires { ⌜ at + 12 ≤ length (now file) ⌝ }
+    ensures { λ r. ⌜ atomOf r ≡ atomIn (now (file .entry)) at ⌝ }
 {
-    t[k] = from;
-    t[k + 1] = to;
-    t[k + 2] = variable;
+    Atom {
+        kind: file[at + 3] as u16,
+        from: word(file, at + 4),
+        to: word(file, at + 6),
+        bound: word(file, at + 8),
+        variable: word(file, at + 10),
+    }
 }
 
-fn put_atom(t: &mut [u16], k: usize, kind: u16, from: u16, to: u16, bound: u16, variable: u16)
-    requires { ⌜ k + 5 ≤ length (now t) ⌝ }
-    ensures { λ _. ⌜ take (k + 5) (now (t .exit)) ≡ take k (now (t .entry)) ++ (kind ∷ from ∷ to ∷ bound ∷ variable ∷ []) ⌝ }
+fn put_edge(table: &mut [u16], row: usize, edge: Edge)
+    requires { ⌜ row + 3 ≤ length (now table) ⌝ }
+    ensures { λ _. ⌜ take (row + 3) (now (table .exit)) ≡ take row (now (table .entry)) ++ (edge .from ∷ edge .to ∷ edge .variable ∷ []) ⌝ }
 {
-    t[k] = kind;
-    t[k + 1] = from;
-    t[k + 2] = to;
-    t[k + 3] = bound;
-    t[k + 4] = variable;
+    table[row] = edge.from;
+    table[row + 1] = edge.to;
+    table[row + 2] = edge.variable;
 }
 
-fn take_edge(
-    file: &[u8],
-    at: usize,
-    len: usize,
-    counts: Plan,
-    edges: &mut [u16],
-    atoms: &[u16],
-) -> Move
-    requires { ⌜ (at + 3 + len ≤ length (now file)) × (len ≡ lenAt (now file) at) × Room counts × (length (now edges) ≡ 768) × (length (now atoms) ≡ 320) ⌝ }
+fn put_atom(table: &mut [u16], row: usize, atom: Atom)
+    requires { ⌜ row + 5 ≤ length (now table) ⌝ }
+    ensures { λ _. ⌜ take (row + 5) (now (table .exit)) ≡ take row (now (table .entry)) ++ (atom .kind ∷ atom .from ∷ atom .to ∷ atom .bound ∷ atom .variable ∷ []) ⌝ }
+{
+    table[row] = atom.kind;
+    table[row + 1] = atom.from;
+    table[row + 2] = atom.to;
+    table[row + 3] = atom.bound;
+    table[row + 4] = atom.variable;
+}
+
+// Takes an edge into its table, unless a number of refusal is returned. So do the two below.
+fn take_edge(file: &[u8], at: usize, counts: Plan, edges: &mut [u16], atoms: &[u16]) -> u8
+    requires { ⌜ (after (now file) at ≤ length (now file)) × Room counts × (length (now edges) ≡ 768) × (length (now atoms) ≡ 320) ⌝ }
     ensures { λ r. ⌜ EdgeRead (now (file .entry)) at counts (now (edges .entry)) (now (atoms .entry)) r (now (edges .exit)) ⌝ }
 {
-    if len != 6 {
-        return Move::Stopped(Refusal::BadLength(at));
+    if word(file, at + 1) != 6 {
+        return BAD_LENGTH;
     }
-    let from = word(file, at + 3);
-    let to = word(file, at + 5);
-    let variable = word(file, at + 7);
-    let nodes = counts.nodes;
-    let variables = counts.variables;
-    if !ends_ok(nodes, variables, from, to, variable) {
-        return Move::Stopped(Refusal::OutOfRange(at));
+    let edge = edge_in(file, at);
+    if !ends_ok(
+        counts.nodes,
+        counts.variables,
+        edge.from,
+        edge.to,
+        edge.variable,
+    ) {
+        return OUT_OF_RANGE;
     }
     let n = counts.edges;
     if n >= Plan::MAX_EDGES {
-        return Move::Stopped(Refusal::TooMany(at));
+        return TOO_MANY;
     }
-    let k = counts.atoms;
-    let e = k * 5;
-    if atom_uses(&atoms[..e], variable) {
-        return Move::Stopped(Refusal::Shared(at));
+    let used = counts.atoms * Atom::NUMBERS;
+    if uses(&atoms[..used], 4, edge.variable) {
+        return SHARED;
     }
-    put_edge(edges, n * 3, from, to, variable);
-    Move::Next(
-        at + 9,
-        Plan {
-            nodes: nodes,
-            variables: variables,
-            edges: n + 1,
-            atoms: k,
-            clauses: counts.clauses,
-            literals: counts.literals,
-        },
-    )
+    put_edge(edges, n * Edge::NUMBERS, edge);
+    NONE
 }
 
-fn take_atom(
-    file: &[u8],
-    at: usize,
-    len: usize,
-    counts: Plan,
-    edges: &[u16],
-    atoms: &mut [u16],
-) -> Move
-    requires { ⌜ (at + 3 + len ≤ length (now file)) × (len ≡ lenAt (now file) at) × Room counts × (length (now edges) ≡ 768) × (length (now atoms) ≡ 320) ⌝ }
+fn take_atom(file: &[u8], at: usize, counts: Plan, edges: &[u16], atoms: &mut [u16]) -> u8
+    requires { ⌜ (after (now file) at ≤ length (now file)) × Room counts × (length (now edges) ≡ 768) × (length (now atoms) ≡ 320) ⌝ }
     ensures { λ r. ⌜ AtomRead (now (file .entry)) at counts (now (edges .entry)) (now (atoms .entry)) r (now (atoms .exit)) ⌝ }
 {
-    if len != 9 {
-        return Move::Stopped(Refusal::BadLength(at));
+    if word(file, at + 1) != 9 {
+        return BAD_LENGTH;
     }
-    let kind = byte(file, at + 3);
-    let from = word(file, at + 4);
-    let to = word(file, at + 6);
-    let bound = word(file, at + 8);
-    let variable = word(file, at + 10);
-    let nodes = counts.nodes;
-    let variables = counts.variables;
-    if !atom_ok(nodes, variables, kind, from, to, bound, variable) {
-        return Move::Stopped(Refusal::OutOfRange(at));
+    let atom = atom_in(file, at);
+    if !kind_ok(atom.kind, atom.bound) {
+        return OUT_OF_RANGE;
+    }
+    if !ends_ok(
+        counts.nodes,
+        counts.variables,
+        atom.from,
+        atom.to,
+        atom.variable,
+    ) {
+        return OUT_OF_RANGE;
     }
     let n = counts.atoms;
     if n >= Atom::MAX {
-        return Move::Stopped(Refusal::TooMany(at));
+        return TOO_MANY;
     }
-    let k = counts.edges;
-    let e = k * 3;
-    if edge_uses(&edges[..e], variable) {
-        return Move::Stopped(Refusal::Shared(at));
+    let used = counts.edges * Edge::NUMBERS;
+    if uses(&edges[..used], 2, atom.variable) {
+        return SHARED;
     }
-    put_atom(atoms, n * 5, kind, from, to, bound, variable);
-    Move::Next(
-        at + 12,
-        Plan {
-            nodes: nodes,
-            variables: variables,
-            edges: k,
-            atoms: n + 1,
-            clauses: counts.clauses,
-            literals: counts.literals,
-        },
-    )
+    put_atom(atoms, n * Atom::NUMBERS, atom);
+    NONE
 }
 
-fn take_clause(file: &[u8], at: usize, len: usize, counts: Plan, clauses: &mut [i16]) -> Move
-    requires { ⌜ (at + 3 + len ≤ length (now file)) × (len ≡ lenAt (now file) at) × Room counts × (length (now clauses) ≡ 5120) ⌝ }
+fn take_clause(file: &[u8], at: usize, counts: Plan, clauses: &mut [i16]) -> u8
+    requires { ⌜ (after (now file) at ≤ length (now file)) × Room counts × (length (now clauses) ≡ 5120) ⌝ }
     ensures { λ r. ⌜ ClauseRead (now (file .entry)) at counts (now (clauses .entry)) r (now (clauses .exit)) ⌝ }
 {
+    let len = wide(word(file, at + 1));
     if len < 2 {
-        return Move::Stopped(Refusal::BadLength(at));
+        return BAD_LENGTH;
     }
     let n = len / 2;
     if n * 2 != len {
-        return Move::Stopped(Refusal::BadLength(at));
+        return BAD_LENGTH;
     }
-    let variables = counts.variables;
-    if !literals_ok(file, at + 3, n, variables) {
-        return Move::Stopped(Refusal::OutOfRange(at));
+    if !literals_ok(file, at + 3, n, counts.variables) {
+        return OUT_OF_RANGE;
     }
-    let m = counts.clauses;
-    let l = counts.literals;
-    if m >= Clause::MAX {
-        return Move::Stopped(Refusal::TooMany(at));
+    if counts.clauses >= Clause::MAX {
+        return TOO_MANY;
     }
-    if l + n > Clause::MAX_LITERALS {
-        return Move::Stopped(Refusal::TooMany(at));
+    if counts.literals + n > Clause::MAX_LITERALS {
+        return TOO_MANY;
     }
-    copy_literals(file, at + 3, n, clauses, l + m);
-    Move::Next(
-        at + 3 + len,
-        Plan {
-            nodes: counts.nodes,
-            variables: variables,
-            edges: counts.edges,
-            atoms: counts.atoms,
-            clauses: m + 1,
-            literals: l + n,
-        },
-    )
+    copy_literals(file, at + 3, n, clauses, counts.literals + counts.clauses);
+    NONE
 }
 
-fn end(file: &[u8], at: usize, len: usize, counts: Plan) -> Move
-    requires { ⌜ (at + 3 + len ≤ length (now file)) × (len ≡ lenAt (now file) at) ⌝ }
-    ensures { λ r. ⌜ EndRead (now (file .entry)) at counts r ⌝ }
-{
-    if len != 0 {
-        return Move::Stopped(Refusal::BadLength(at));
-    }
-    let k = at + 3;
-    if file.len() != k {
-        return Move::Stopped(Refusal::Misplaced(k));
-    }
-    Move::Done(counts)
-}
-
-fn step(
+// Takes the record at an offset into its table, unless a number of refusal is returned. What follows an end record is not looked at here.
+fn take_record(
     file: &[u8],
     at: usize,
     counts: Plan,
     edges: &mut [u16],
     atoms: &mut [u16],
     clauses: &mut [i16],
-) -> Move
+) -> u8
     requires { ⌜ (at ≤ length (now file)) × Room counts × (length (now edges) ≡ 768) × (length (now atoms) ≡ 320) × (length (now clauses) ≡ 5120) ⌝ }
     ensures { λ r. ⌜ RecordRead (now (file .entry)) at counts (now (edges .entry)) (now (atoms .entry)) (now (clauses .entry)) r (now (edges .exit)) (now (atoms .exit)) (now (clauses .exit)) ⌝ }
 {
-    if file.len() - at < 3 {
-        return Move::Stopped(Refusal::Cut(at));
-    }
-    let len = wide(word(file, at + 1));
-    if file.len() - at - 3 < len {
-        return Move::Stopped(Refusal::Cut(at));
+    if !record_fits(file, at) {
+        return CUT;
     }
     let tag = file[at];
     if tag == 1 {
-        return Move::Stopped(Refusal::Misplaced(at));
+        return MISPLACED;
     }
     if tag == 2 {
-        return take_edge(file, at, len, counts, edges, atoms);
+        return take_edge(file, at, counts, edges, atoms);
     }
     if tag == 3 {
-        return take_atom(file, at, len, counts, edges, atoms);
+        return take_atom(file, at, counts, edges, atoms);
     }
     if tag == 4 {
-        return take_clause(file, at, len, counts, clauses);
+        return take_clause(file, at, counts, clauses);
     }
-    if tag == 5 {
-        return end(file, at, len, counts);
+    if tag != 5 {
+        return UNKNOWN_TAG;
     }
-    Move::Stopped(Refusal::UnknownTag(at))
+    if word(file, at + 1) != 0 {
+        return BAD_LENGTH;
+    }
+    NONE
 }
 
-fn head(file: &[u8]) -> Move
-    ensures { λ r. ⌜ HeadRead (now (file .entry)) r ⌝ }
+// The offset behind the record at an offset.
+fn behind(file: &[u8], at: usize) -> usize
+    requires { ⌜ after (now file) at ≤ length (now file) ⌝ }
+    ensures { λ r. ⌜ r ≡ after (now (file .entry)) at ⌝ }
 {
-    if file.len() > Plan::MAX_BYTES {
-        return Move::Stopped(Refusal::TooLong);
-    }
-    if file.len() < 3 {
-        return Move::Stopped(Refusal::Cut(0));
-    }
-    let len = wide(word(file, 1));
-    if file.len() - 3 < len {
-        return Move::Stopped(Refusal::Cut(0));
-    }
-    if file[0] != 1 {
-        return Move::Stopped(Refusal::Misplaced(0));
-    }
-    if len != 4 {
-        return Move::Stopped(Refusal::BadLength(0));
-    }
-    let nodes = word(file, 3);
-    let variables = word(file, 5);
-    if !head_ok(nodes, variables) {
-        return Move::Stopped(Refusal::OutOfRange(0));
-    }
-    Move::Next(
-        7,
-        Plan {
-            nodes: nodes,
-            variables: variables,
-            edges: 0,
-            atoms: 0,
-            clauses: 0,
-            literals: 0,
-        },
-    )
+    at + 3 + wide(word(file, at + 1))
 }
 
+// The counts with the record at an offset.
+fn one_more(file: &[u8], at: usize, counts: Plan) -> Plan
+    requires { ⌜ (after (now file) at ≤ length (now file)) × Room counts ⌝ }
+    ensures { λ r. ⌜ r ≡ oneMore (now (file .entry)) at counts ⌝ }
+{
+    let tag = file[at];
+    if tag == 2 {
+        return Plan {
+            nodes: counts.nodes,
+            variables: counts.variables,
+            edges: counts.edges + 1,
+            atoms: counts.atoms,
+            clauses: counts.clauses,
+            literals: counts.literals,
+        };
+    }
+    if tag == 3 {
+        return Plan {
+            nodes: counts.nodes,
+            variables: counts.variables,
+            edges: counts.edges,
+            atoms: counts.atoms + 1,
+            clauses: counts.clauses,
+            literals: counts.literals,
+        };
+    }
+    if tag == 4 {
+        return Plan {
+            nodes: counts.nodes,
+            variables: counts.variables,
+            edges: counts.edges,
+            atoms: counts.atoms,
+            clauses: counts.clauses + 1,
+            literals: counts.literals + wide(word(file, at + 1)) / 2,
+        };
+    }
+    counts
+}
+
+// What a refusal's number stands for. The file's length alone is refused with no offset.
+fn refusal(number: u8, offset: usize) -> Refusal
+    requires { ⌜ Numbered number offset ⌝ }
+    ensures { λ r. ⌜ (number ≡ numberOf r) × (offset ≡ valueOf r) ⌝ }
+{
+    match number {
+        TOO_LONG => Refusal::TooLong,
+        CUT => Refusal::Cut(offset),
+        MISPLACED => Refusal::Misplaced(offset),
+        UNKNOWN_TAG => Refusal::UnknownTag(offset),
+        BAD_LENGTH => Refusal::BadLength(offset),
+        OUT_OF_RANGE => Refusal::OutOfRange(offset),
+        TOO_MANY => Refusal::TooMany(offset),
+        _ => Refusal::Shared(offset),
+    }
+}
+
+fn refused(number: u8, offset: usize) -> ReadAnswer
+    requires { ⌜ Numbered number offset ⌝ }
+    ensures { λ r. ⌜ RefusedBy number offset r ⌝ }
+{
+    ReadAnswer::Refused(refusal(number, offset))
+}
+
+// Behind an end record the file ends.
+fn end(file: &[u8], at: usize, counts: Plan) -> ReadAnswer
+    ensures { λ r. ⌜ EndRead (now (file .entry)) at counts r ⌝ }
+{
+    if file.len() != at {
+        return ReadAnswer::Refused(Refusal::Misplaced(at));
+    }
+    ReadAnswer::Accepted(counts)
+}
+
+// The records from an offset on.
 fn read_records(
     file: &[u8],
     from: usize,
@@ -426,25 +432,58 @@ fn read_records(
     atoms: &mut [u16],
     clauses: &mut [i16],
 ) -> ReadAnswer
-    requires { ⌜ (from ≤ length (now file)) × Stands start (now edges) (now atoms) (now clauses) × Room start × (length (now edges) ≡ 768) × (length (now atoms) ≡ 320) × (length (now clauses) ≡ 5120) ⌝ }
+    requires { ⌜ (from ≤ length (now file)) × Room start × (length (now edges) ≡ 768) × (length (now atoms) ≡ 320) × (length (now clauses) ≡ 5120) ⌝ }
     ensures { λ r. ⌜ RestRead (now (file .entry)) from start (now (edges .entry)) (now (atoms .entry)) (now (clauses .entry)) r (now (edges .exit)) (now (atoms .exit)) (now (clauses .exit)) ⌝ }
 {
     let mut at = from;
     let mut counts = start;
     loop {
-        let m = step(file, at, counts, edges, atoms, clauses);
-        match m {
-            Move::Stopped(x) => {
-                return ReadAnswer::Refused(x);
-            }
-            Move::Done(d) => {
-                return ReadAnswer::Accepted(d);
-            }
-            Move::Next(a, d) => {
-                at = a;
-                counts = d;
-            }
+        let number = take_record(file, at, counts, edges, atoms, clauses);
+        if number != NONE {
+            return refused(number, at);
         }
+        if file[at] == 5 {
+            return end(file, at + 3, counts);
+        }
+        counts = one_more(file, at, counts);
+        at = behind(file, at);
+    }
+}
+
+// The number of the first refusal that the file's length or its head meets.
+fn head(file: &[u8]) -> u8
+    ensures { λ r. ⌜ HeadRead (now (file .entry)) r ⌝ }
+{
+    if file.len() > Plan::MAX_BYTES {
+        return TOO_LONG;
+    }
+    if !record_fits(file, 0) {
+        return CUT;
+    }
+    if file[0] != 1 {
+        return MISPLACED;
+    }
+    if word(file, 1) != 4 {
+        return BAD_LENGTH;
+    }
+    if !head_ok(word(file, 3), word(file, 5)) {
+        return OUT_OF_RANGE;
+    }
+    NONE
+}
+
+// The counts behind the head.
+fn start(file: &[u8]) -> Plan
+    requires { ⌜ 7 ≤ length (now file) ⌝ }
+    ensures { λ r. ⌜ r ≡ start (now (file .entry)) ⌝ }
+{
+    Plan {
+        nodes: word(file, 3),
+        variables: word(file, 5),
+        edges: 0,
+        atoms: 0,
+        clauses: 0,
+        literals: 0,
     }
 }
 
@@ -458,10 +497,9 @@ pub fn read_into(
     requires { ⌜ (length (now edges) ≡ 768) × (length (now atoms) ≡ 320) × (length (now clauses) ≡ 5120) ⌝ }
     ensures { λ r. ⌜ Answers (readPlan (now (file .entry))) r (now (edges .exit)) (now (atoms .exit)) (now (clauses .exit)) ⌝ }
 {
-    let m = head(file);
-    match m {
-        Move::Stopped(x) => ReadAnswer::Refused(x),
-        Move::Done(d) => ReadAnswer::Accepted(d),
-        Move::Next(a, d) => read_records(file, a, d, edges, atoms, clauses),
+    let number = head(file);
+    if number != NONE {
+        return refused(number, 0);
     }
+    read_records(file, 7, start(file), edges, atoms, clauses)
 }

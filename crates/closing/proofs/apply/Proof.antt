@@ -10,10 +10,9 @@ use mir.Facts.{toZ-ofZ}
 use Rattle.plan.specs.Meaning.{trueIn, add}
 use Rattle.plan.specs.Ranged.{LiteralFits}
 use Rattle.plan.specs.Tables.{literalValue}
-use Rattle.plan.proofs.Add.{IsValue}
 use Rattle.plan.proofs.Signs.{bits-eq}
-use Rattle.plan.proofs.Values.{literal-value, literal-true, sign-fits}
 use Rattle.closing.specs.Clauses.{Stop}
+use Rattle.closing.proofs.Literals.{bits-true, true-bits}
 use Rattle.closing.proofs.Scan.{not-last, at-zero, at-true, at-second, at-end}
 use borrow.Author.Needs.{needs}
 use Rattle.closing.proofs.apply.Statement.{statement}
@@ -74,12 +73,10 @@ module _ (c : tie.After-value-of) where
   value-is = c .value-of .ensures ∙ ap (literalValue (values (has .before))) (number (has .before))
 
   is-true : ofZ w8 (c .value-of .result) ≡ 1 → T (trueIn (values (has .before)) (getD (table (has .before)) (first (has .before)) (pos 0)))
-  is-true e =
-      let s : IsValue (c .value-of .result) = subst (λ x. IsValue x) (sym value-is) (literal-value _ _ (begin (has .before) .pre .0 .shape) _ (fits has .low) (fits has .high)) in
-      literal-true _ _ .1 (sym value-is ∙ bits-eq w8 (c .value-of .result) 1 (sign-fits _ s) e)
+  is-true e = bits-true (values (has .before)) (getD (table (has .before)) (first (has .before)) (pos 0)) (c .value-of .result) (begin (has .before) .pre .0 .shape) (fits has) value-is e
 
   not-true : (ofZ w8 (c .value-of .result) ≡ 1 → ⊥) → T (trueIn (values (has .before)) (getD (table (has .before)) (first (has .before)) (pos 0))) → ⊥
-  not-true n t = n (ap (ofZ w8) (value-is ∙ literal-true _ _ .0 t))
+  not-true n t = n (true-bits (values (has .before)) (getD (table (has .before)) (first (has .before)) (pos 0)) (c .value-of .result) (begin (has .before) .pre .0 .shape) (fits has) value-is t)
 
   -- the second stop passes over that literal
   second-stop : (r : ℕ) → Stop (table (has .before)) (values (has .before)) (first (has .before) + 1) (toZ w16 (ofZ w16 (getD (table (has .before)) (first (has .before)) (pos 0)))) r

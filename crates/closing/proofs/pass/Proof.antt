@@ -6,7 +6,7 @@ use borrow.Author.Needs.{needs}
 use lib.IntN.{ℤ}
 use lib.ListN.{length}
 use Rattle.closing.specs.Clauses.{Passed}
-use Rattle.closing.proofs.Passing.{Passing, passing-start, passing-ready, pass-clash, pass-set, pass-still, pass-ends}
+use Rattle.closing.proofs.Passing.{Passing, passing-start, ready-kept, pass-clash, pass-set, pass-still, pass-ends}
 use Rattle.closing.proofs.pass.Statement.{statement}
 use Rattle.closing.proofs.pass.Tie as tie
 
@@ -20,7 +20,7 @@ loop-holds : tie.Need-loop-holds Inv-loop μ-loop
 loop-holds c = passing-start _ _ (c .pre .shape)
 
 apply-requires : tie.Need-apply-requires Inv-loop μ-loop
-apply-requires c κs = (passing-ready _ _ _ _ _ (c .before .before .before .pre) (c .before .before .loop .inv), c .before .loop-test .taken)
+apply-requires c κs = (ready-kept _ (c .before .before .before .args .values .now) _ (c .before .before .before .pre) (c .before .before .loop .inv .shape), c .before .loop-test .taken)
 
 -- after a clause
 module _ (c : tie.After-apply Inv-loop μ-loop) where

@@ -3,7 +3,7 @@ use borrow.Author.Needs.{needs}
 use lib.IntN.{ℤ}
 use Rattle.plan.specs.Search.{opens}
 use Rattle.closing.specs.Clauses.{ClauseClash}
-use Rattle.closing.proofs.Passing.{Kept, kept-start, kept-ready, kept-then, kept-clash, kept-still, tells-fewer}
+use Rattle.closing.proofs.Passing.{Kept, kept-start, ready-kept, kept-then, kept-clash, kept-still, tells-fewer}
 use Rattle.closing.proofs.propagate.Statement.{statement}
 use Rattle.closing.proofs.propagate.Tie as tie
 
@@ -17,7 +17,7 @@ loop-holds : tie.Need-loop-holds Inv-loop μ-loop
 loop-holds c = kept-start _ _ (c .pre .shape)
 
 pass-requires : tie.Need-pass-requires Inv-loop μ-loop
-pass-requires c κs = kept-ready _ _ _ (c .before .before .pre) (c .before .loop .inv)
+pass-requires c κs = ready-kept _ (c .before .before .args .values .now) _ (c .before .before .pre) (c .before .loop .inv .shape)
 
 -- after a pass
 module _ (c : tie.After-pass Inv-loop μ-loop) where

@@ -1,9 +1,7 @@
-use borrow.Author.Tests.{lt-ltb, le-ltb, lt-leb, le-leb, eq-eqb, ne-eqb}
+use borrow.Author.Tests.{lt-ltb, le-ltb, lt-leb, le-leb}
 use Rattle.reader.specs.Format.{endsOk}
 use Rattle.reader.proofs.ends_ok.Statement.{statement}
 use Rattle.reader.proofs.ends_ok.Tie as tie
-use Rattle.reader.proofs.ends_ok.Reads as reads
-use Rattle.reader.proofs.ends_ok.Lts as lts
 
 returns : tie.Need-returns
 unfolding endsOk

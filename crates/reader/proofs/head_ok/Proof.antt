@@ -1,9 +1,7 @@
-use borrow.Author.Tests.{lt-ltb, le-ltb, lt-leb, le-leb, eq-eqb, ne-eqb}
+use borrow.Author.Tests.{lt-leb, le-leb}
 use Rattle.reader.specs.Format.{headOk}
 use Rattle.reader.proofs.head_ok.Statement.{statement}
 use Rattle.reader.proofs.head_ok.Tie as tie
-use Rattle.reader.proofs.head_ok.Reads as reads
-use Rattle.reader.proofs.head_ok.Lts as lts
 
 returns : tie.Need-returns
 unfolding headOk

@@ -1,12 +1,9 @@
 use Rattle.reader.proofs.Bits.{kind-one, kind-two}
 use mathlib.Core.Path.{sym}
-use mathlib.Core.Bool.{or-false}
-use borrow.Author.Tests.{lt-ltb, le-ltb, lt-leb, le-leb, eq-eqb, ne-eqb}
+use borrow.Author.Tests.{ne-eqb}
 use Rattle.reader.specs.Format.{kindOk}
 use Rattle.reader.proofs.kind_ok.Statement.{statement}
 use Rattle.reader.proofs.kind_ok.Tie as tie
-use Rattle.reader.proofs.kind_ok.Reads as reads
-use Rattle.reader.proofs.kind_ok.Lts as lts
 
 returns : tie.Need-returns
 returns c = sym (kind-one _ _ (c .if1 .taken))

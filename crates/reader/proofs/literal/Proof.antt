@@ -1,4 +1,4 @@
-use mathlib.Core.Path.{_≡_, refl, sym, ap, _∙_}
+use mathlib.Core.Path.{sym, _∙_}
 use native.Mathlib.Omega.{arith}
 use Prim.Native.Nat.{_-_}
 use mir.Facts.{toZ-ofZ}
@@ -6,17 +6,6 @@ use Rattle.reader.proofs.Bits.{small16, off-fits16, off-is16, twos-low,
 use borrow.Author.Needs.{needs}
 use Rattle.reader.proofs.literal.Statement.{statement}
 use Rattle.reader.proofs.literal.Tie as tie
-use Rattle.reader.proofs.literal.Reads as reads
-use Rattle.reader.proofs.literal.Lts as lts
-
-cast-result : tie.Need-cast-result
-cast-result c = search needs
-
-sub-result : tie.Need-sub-result
-sub-result c = search needs
-
-cast-result-2 : tie.Need-cast-result-2
-cast-result-2 c = search needs
 
 sub-result-2 : tie.Need-sub-result-2
 sub-result-2 c = off-fits16 (65535 - c .before .args .x) (omega arith)
@@ -28,5 +17,4 @@ returns-2 : tie.Need-returns-2
 returns-2 c = off-is16 (65535 - c .before .args .x) (omega arith) ∙ sym (twos-high _ (c .if1 .left))
 
 pub literal-spec : {M : Type 1} → statement M
-literal-spec =
-    tie.close (tie.spec cast-result sub-result cast-result-2 sub-result-2 returns returns-2)
+literal-spec = tie.close (tie.spec (λ c. search needs) (λ c. search needs) (λ c. search needs) sub-result-2 returns returns-2)

@@ -1,11 +1,8 @@
-use borrow.Author.Tests.{lt-ltb, le-ltb, lt-leb, le-leb, eq-eqb, ne-eqb}
-use mathlib.Core.Path.{_≡_, refl, sym, ap, _∙_}
+use borrow.Author.Tests.{lt-leb, le-leb}
 use Rattle.reader.proofs.Bits.{low-ok, high-ok}
 use borrow.Author.Needs.{needs}
 use Rattle.reader.proofs.literal_ok.Statement.{statement}
 use Rattle.reader.proofs.literal_ok.Tie as tie
-use Rattle.reader.proofs.literal_ok.Reads as reads
-use Rattle.reader.proofs.literal_ok.Lts as lts
 
 returns : tie.Need-returns
 returns c = simp (low-ok (c .before .before .args .variables) (c .before .before .args .x) (c .before .if1 .taken), lt-leb 1 _ (c .if2 .taken))

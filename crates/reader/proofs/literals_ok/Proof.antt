@@ -1,52 +1,59 @@
-use Rattle.reader.specs.Format.{literalOk, twos}
-use borrow.Author.Tests.{not-true, not-false}
-use borrow.Author.Needs.{needs}
 use mathlib.Core.Path.{_≡_, refl, sym, ap, _∙_}
+use mathlib.Core.List.{List, _∷_}
 use native.Mathlib.Omega.{arith}
-use mathlib.Core.Bool.{Bool, true, false}
-use Prim.Native.Nat.{ℕ, _+_, _*_, _≤_}
-use lib.ListN.{length}
-use Rattle.reader.specs.Format.{literalsOk, literalsIn}
+use Prim.Native.Nat.{ℕ, _+_, _-_, _*_}
+use lib.IntN.{ℤ}
+use borrow.Author.Needs.{needs}
+use borrow.Author.Tests.{not-true, not-false}
+use Rattle.reader.specs.Format.{word, twos, literalOk, literalsOk, literalsIn}
 use Rattle.reader.proofs.Rows.{literals-step, literals-none, literals-ok-step, literals-ok-stop, literals-ok-none}
 use Rattle.reader.proofs.literals_ok.Statement.{statement}
 use Rattle.reader.proofs.literals_ok.Tie as tie
-use Rattle.reader.proofs.literals_ok.Reads as reads
-use Rattle.reader.proofs.literals_ok.Lts as lts
-use Rattle.reader.proofs.literal_ok.Reads as literal-ok-reads
-use Rattle.reader.proofs.word.Reads as word-reads
 
 abbrev Inv-loop : tie.InvT-loop
-Inv-loop f from count variables at₀ left₀ at left = (at + left * 2 ≡ from + count * 2) × (literalsOk variables (literalsIn f at left) ≡ literalsOk variables (literalsIn f from count))
+Inv-loop f from count variables at₀ left₀ at left =
+    (at + left * 2 ≡ from + count * 2) × (literalsOk variables (literalsIn f at left) ≡ literalsOk variables (literalsIn f from count))
 
 abbrev μ-loop : tie.MeasureT-loop
 μ-loop f from count variables at₀ left₀ at left = left
 
-loop-holds : tie.Need-loop-holds Inv-loop μ-loop
-loop-holds c = (refl, refl)
+-- the next literal, its test, and all literals as it and those behind it
+module _ (c : tie.After-literal-ok Inv-loop μ-loop) where
+  abbrev turn : tie.At-loop Inv-loop μ-loop
+  turn = c .before .before .before
 
-word-requires : tie.Need-word-requires Inv-loop μ-loop
-word-requires c κs = omega arith
+  abbrev entry : tie.Start Inv-loop μ-loop
+  entry = turn .before .before
 
-literal-ok-requires : tie.Need-literal-ok-requires Inv-loop μ-loop
-literal-ok-requires c κs = search needs
+  abbrev variables : ℕ
+  variables = entry .args .variables
+
+  abbrev file : List ℕ
+  file = entry .args .file .now
+
+  abbrev at : ℕ
+  at = turn .loop .at
+
+  abbrev behind : List ℤ
+  behind = literalsIn file (at + 2) (turn .loop .left - 1)
+
+  tested : literalOk variables (twos (word file at)) ≡ c .literal-ok .result
+  tested = sym (c .literal-ok .ensures ∙ ap (λ x. literalOk variables (twos x)) (c .before .word .ensures))
+
+  all : literalsOk variables (twos (word file at) ∷ behind) ≡ literalsOk variables (literalsIn file (entry .args .from) (entry .args .count))
+  all = ap (literalsOk variables) (sym (literals-step file at (turn .loop .left) (omega arith))) ∙ turn .loop .inv .1
 
 returns : tie.Need-returns Inv-loop μ-loop
-returns c = let l = c .before .before .before .before .loop in let a = c .before .before .before .before .before .before .args in sym (sym (l .inv .1) ∙ ap (literalsOk (a .variables)) (literals-step (a .file .now) (l .at) (l .left) (omega arith)) ∙ literals-ok-stop (a .variables) _ _ (sym (c .before .literal-ok .ensures ∙ ap (λ (x : ℕ). literalOk (a .variables) (twos x)) (c .before .before .word .ensures)) ∙ not-true _ (c .if1 .taken)))
-
-add-at : tie.Need-add-at Inv-loop μ-loop
-add-at c = omega arith
-
-sub-left : tie.Need-sub-left Inv-loop μ-loop
-sub-left c = omega arith
-
-loop-less : tie.Need-loop-less Inv-loop μ-loop
-loop-less c = omega arith
+returns c = let d = c .before in sym (literals-ok-stop (variables d) _ (behind d) (tested d ∙ not-true _ (c .if1 .taken))) ∙ all d
 
 loop-again : tie.Need-loop-again Inv-loop μ-loop
-loop-again c = let l = c .before .before .before .before .loop in let a = c .before .before .before .before .before .before .args in (omega arith, sym (sym (l .inv .1) ∙ ap (literalsOk (a .variables)) (literals-step (a .file .now) (l .at) (l .left) (omega arith)) ∙ literals-ok-step (a .variables) _ _ (sym (c .before .literal-ok .ensures ∙ ap (λ (x : ℕ). literalOk (a .variables) (twos x)) (c .before .before .word .ensures)) ∙ not-false _ (c .if1 .left))))
+loop-again c = let d = c .before in (omega arith, sym (literals-ok-step (variables d) _ (behind d) (tested d ∙ not-false _ (c .if1 .left))) ∙ all d)
 
 returns-2 : tie.Need-returns-2 Inv-loop μ-loop
-returns-2 c = let l = c .before .loop in let a = c .before .before .before .args in sym (sym (l .inv .1) ∙ ap (literalsOk (a .variables)) (literals-none (a .file .now) (l .at) (l .left) (omega arith)) ∙ literals-ok-none (a .variables))
+returns-2 c =
+    let a = c .before .before .before .args in
+    let l = c .before .loop in
+    sym (ap (literalsOk (a .variables)) (literals-none (a .file .now) (l .at) (l .left) (omega arith)) ∙ literals-ok-none (a .variables)) ∙ l .inv .1
 
 pub literals-ok-spec : {M : Type 1} → statement M
 literals-ok-spec =
@@ -54,12 +61,12 @@ literals-ok-spec =
     (tie.spec
     Inv-loop
     μ-loop
-    loop-holds
-    word-requires
-    literal-ok-requires
+    (λ c. (refl, refl))
+    (λ c κs. omega arith)
+    (λ c κs. search needs)
     returns
-    add-at
-    sub-left
-    loop-less
+    (λ c. omega arith)
+    (λ c. omega arith)
+    (λ c. omega arith)
     loop-again
     returns-2)

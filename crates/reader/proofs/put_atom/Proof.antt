@@ -1,77 +1,46 @@
 use lib.ListN.{length-set}
 use native.Mathlib.Omega.{arith}
-use Rattle.reader.proofs.Rows.{put5}
+use mathlib.Core.List.{[], _∷_}
+use mathlib.Core.Path.{refl}
 use borrow.Author.Needs.{needs}
+use Rattle.reader.proofs.Rows.{put-row}
 use Rattle.reader.proofs.put_atom.Statement.{statement}
 use Rattle.reader.proofs.put_atom.Tie as tie
-use Rattle.reader.proofs.put_atom.Reads as reads
-use Rattle.reader.proofs.put_atom.Lts as lts
 
-mul-t : tie.Need-mul-t
-mul-t c = search needs
+slice-write-table-2 : tie.Need-slice-write-table-2
+slice-write-table-2 c = simp length-set (omega arith)
 
-slice-write-t : tie.Need-slice-write-t
-slice-write-t c = search needs
+slice-write-table-3 : tie.Need-slice-write-table-3
+slice-write-table-3 c = simp length-set (omega arith)
 
-add-t : tie.Need-add-t
-add-t c = search needs
+slice-write-table-4 : tie.Need-slice-write-table-4
+slice-write-table-4 c = simp length-set (omega arith)
 
-mul-t-2 : tie.Need-mul-t-2
-mul-t-2 c = search needs
-
-slice-write-t-2 : tie.Need-slice-write-t-2
-slice-write-t-2 c = simp length-set (omega arith)
-
-add-t-2 : tie.Need-add-t-2
-add-t-2 c = search needs
-
-mul-t-3 : tie.Need-mul-t-3
-mul-t-3 c = search needs
-
-slice-write-t-3 : tie.Need-slice-write-t-3
-slice-write-t-3 c = simp length-set (omega arith)
-
-add-t-3 : tie.Need-add-t-3
-add-t-3 c = search needs
-
-mul-t-4 : tie.Need-mul-t-4
-mul-t-4 c = search needs
-
-slice-write-t-4 : tie.Need-slice-write-t-4
-slice-write-t-4 c = simp length-set (omega arith)
-
-add-t-4 : tie.Need-add-t-4
-add-t-4 c = search needs
-
-mul-t-5 : tie.Need-mul-t-5
-mul-t-5 c = search needs
-
-slice-write-t-5 : tie.Need-slice-write-t-5
-slice-write-t-5 c = simp length-set (omega arith)
-
-same-length : tie.Need-same-length
-same-length c = search needs
+slice-write-table-5 : tie.Need-slice-write-table-5
+slice-write-table-5 c = simp length-set (omega arith)
 
 returns : tie.Need-returns
-returns c = put5 _ _ _ _ _ _ _ (c .pre)
+returns c =
+    let a = c .args .atom in
+    put-row (c .args .table .now) (c .args .row) 5 (a .kind) (a .from ∷ a .to ∷ a .bound ∷ a .variable ∷ []) refl (c .pre)
 
 pub put-atom-spec : {M : Type 1} → statement M
 put-atom-spec =
     tie.close
     (tie.spec
-    mul-t
-    slice-write-t
-    add-t
-    mul-t-2
-    slice-write-t-2
-    add-t-2
-    mul-t-3
-    slice-write-t-3
-    add-t-3
-    mul-t-4
-    slice-write-t-4
-    add-t-4
-    mul-t-5
-    slice-write-t-5
-    same-length
+    (λ c. search needs)
+    (λ c. search needs)
+    (λ c. search needs)
+    (λ c. search needs)
+    slice-write-table-2
+    (λ c. search needs)
+    (λ c. search needs)
+    slice-write-table-3
+    (λ c. search needs)
+    (λ c. search needs)
+    slice-write-table-4
+    (λ c. search needs)
+    (λ c. search needs)
+    slice-write-table-5
+    (λ c. search needs)
     returns)

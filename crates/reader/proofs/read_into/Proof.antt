@@ -1,59 +1,43 @@
-use mathlib.Core.Path.{_≡_, refl, sym, ap, _∙_}
-use native.Mathlib.Omega.{arith}
-use Rattle.reader.proofs.Loop.{read-refused, read-done, head-ahead, head-stands, read-next}
+use mathlib.Core.Path.{sym, subst}
 use borrow.Author.Needs.{needs}
+use Rattle.reader.specs.Filling.{Room}
+use Rattle.reader.proofs.Loop.{read-refused, read-rest, start-room}
 use Rattle.reader.proofs.read_into.Statement.{statement}
 use Rattle.reader.proofs.read_into.Tie as tie
-use Rattle.reader.proofs.read_into.Reads as reads
-use Rattle.reader.proofs.read_into.Lts as lts
-use Rattle.reader.proofs.head.Reads as head-reads
-use Rattle.reader.proofs.read_records.Reads as read-records-reads
-
-head-requires : tie.Need-head-requires
-head-requires c κs = search needs
-
-enum-known-m : tie.Need-enum-known-m
-enum-known-m c = search needs
-
-enum-known-m-2 : tie.Need-enum-known-m-2
-enum-known-m-2 c = search needs
-
-enum-known-m-3 : tie.Need-enum-known-m-3
-enum-known-m-3 c = search needs
-
-read-records-requires : tie.Need-read-records-requires
-read-records-requires c κs = let o = head-ahead (c .before .before .before .before .before .before .before .before .before .before .args .file .now) _ (c .before .before .before .before .before .before .before .before .before .before .args .edges .now) (c .before .before .before .before .before .before .before .before .before .before .args .atoms .now) (c .before .before .before .before .before .before .before .before .before .before .args .clauses .now) (c .before .before .before .before .before .before .head .ensures (c .before .before .before .before .before .before .before .before .before .before .args .edges .now) (c .before .before .before .before .before .before .before .before .before .before .args .atoms .now) (c .before .before .before .before .before .before .before .before .before .before .args .clauses .now)) _ _ (c .before .before .before .before .m3 .given .1) in (o .within, head-stands (c .before .before .before .before .before .before .before .before .before .before .args .file .now) _ (c .before .before .before .before .before .before .before .before .before .before .args .edges .now) (c .before .before .before .before .before .before .before .before .before .before .args .atoms .now) (c .before .before .before .before .before .before .before .before .before .before .args .clauses .now) (c .before .before .before .before .before .before .head .ensures (c .before .before .before .before .before .before .before .before .before .before .args .edges .now) (c .before .before .before .before .before .before .before .before .before .before .args .atoms .now) (c .before .before .before .before .before .before .before .before .before .before .args .clauses .now)) _ _ (c .before .before .before .before .m3 .given .1), o .room, c .before .before .before .before .before .before .before .before .before .before .pre .0, c .before .before .before .before .before .before .before .before .before .before .pre .1, c .before .before .before .before .before .before .before .before .before .before .pre .2)
 
 returns : tie.Need-returns
-returns c = read-refused (c .before .before .before .before .before .before .before .args .file .now) _ (c .before .before .before .before .before .before .before .args .edges .now) (c .before .before .before .before .before .before .before .args .atoms .now) (c .before .before .before .before .before .before .before .args .clauses .now) (c .before .before .before .head .ensures (c .before .before .before .before .before .before .before .args .edges .now) (c .before .before .before .before .before .before .before .args .atoms .now) (c .before .before .before .before .before .before .before .args .clauses .now)) _ (c .before .m .given .1)
+returns c =
+    let a = c .before .before .before .before .before .before .args in
+    read-refused (a .file .now) (c .before .before .head .ensures) (c .before .if1 .taken) (c .refused .result) (c .refused .ensures)
+    (a .edges .now) (a .atoms .now) (a .clauses .now)
+
+read-records-requires : tie.Need-read-records-requires
+read-records-requires c κs =
+    let d = c .before .before .before in
+    let e = d .before in
+    let s = e .before .before .before .before .before in
+    let h = e .before .head .ensures in
+    (h .fit (e .if1 .left), subst Room (sym (d .start .ensures)) (start-room (s .args .file .now) (h .range (e .if1 .left))), s .pre .0, s .pre .1, s .pre .2)
 
 returns-2 : tie.Need-returns-2
-returns-2 c = read-done (c .before .before .before .before .before .before .before .args .file .now) _ (c .before .before .before .before .before .before .before .args .edges .now) (c .before .before .before .before .before .before .before .args .atoms .now) (c .before .before .before .before .before .before .before .args .clauses .now) (c .before .before .before .head .ensures (c .before .before .before .before .before .before .before .args .edges .now) (c .before .before .before .before .before .before .before .args .atoms .now) (c .before .before .before .before .before .before .before .args .clauses .now)) _ (c .before .m2 .given .1)
-
-same-length : tie.Need-same-length
-same-length c = search needs
-
-same-length-2 : tie.Need-same-length-2
-same-length-2 c = search needs
-
-same-length-3 : tie.Need-same-length-3
-same-length-3 c = search needs
-
-returns-3 : tie.Need-returns-3
-returns-3 c = read-next (c .before .before .before .before .before .before .before .before .before .before .before .before .before .before .before .before .args .file .now) _ (c .before .before .before .before .before .before .before .before .before .before .before .before .before .before .before .before .args .edges .now) (c .before .before .before .before .before .before .before .before .before .before .before .before .before .before .before .before .args .atoms .now) (c .before .before .before .before .before .before .before .before .before .before .before .before .before .before .before .before .args .clauses .now) (c .before .before .before .before .before .before .before .before .before .before .before .before .head .ensures (c .before .before .before .before .before .before .before .before .before .before .before .before .before .before .before .before .args .edges .now) (c .before .before .before .before .before .before .before .before .before .before .before .before .before .before .before .before .args .atoms .now) (c .before .before .before .before .before .before .before .before .before .before .before .before .before .before .before .before .args .clauses .now)) _ _ (c .before .before .before .before .before .before .before .before .before .before .m3 .given .1) _ _ _ _ (c .before .before .before .before .before .read-records .ensures)
+returns-2 c =
+    let m = c .before .before .before .before .before in
+    let d = m .before .before .before .before in
+    let e = d .before in
+    let a = e .before .before .before .before .before .args in
+    read-rest (a .file .now) (e .before .head .ensures) (e .if1 .left) (a .edges .now) (a .atoms .now) _ _ (a .clauses .now) _ _
+    (rw (← d .start .ensures) (m .read-records .ensures))
 
 pub read-into-spec : {M : Type 1} → statement M
 read-into-spec =
     tie.close
     (tie.spec
-    head-requires
-    enum-known-m
-    enum-known-m-2
-    enum-known-m-3
-    read-records-requires
+    (λ c κs. search needs)
+    (λ c κs. c .before .head .ensures .number (c .if1 .taken))
     returns
-    returns-2
-    same-length
-    same-length-2
-    same-length-3
-    returns-3)
+    (λ c κs. c .before .head .ensures .fit (c .if1 .left))
+    read-records-requires
+    (λ c. search needs)
+    (λ c. search needs)
+    (λ c. search needs)
+    returns-2)

@@ -1,126 +1,139 @@
-use mathlib.Core.Path.{_≡_, refl, sym, ap, _∙_}
+use mathlib.Core.Path.{_≡_, sym, ap, _∙_, subst}
+use mathlib.Core.Bool.{Bool, true, _&&_}
+use mathlib.Core.List.{List}
 use native.Mathlib.Omega.{arith}
-use Rattle.reader.proofs.Steps.{stop, go, atom-len, atom-range, atom-many, atom-shared, atom-next, atom-tables}
-use borrow.Author.Tests.{not-true, not-false}
+use Prim.Native.Nat.{ℕ, _+_, _*_, _≤_}
+use lib.Dec.{eqb, ltb}
+use lib.ListN.{take}
 use lib.Seq.{length-take-le}
-use Prim.Native.Nat.{ℕ, _+_, _*_}
-use Rattle.reader.specs.Format.{lenAt}
-use lib.ListN.{length}
 use borrow.Author.Needs.{needs}
+use borrow.Author.Tests.{not-true, not-false, eq-eqb, ne-eqb, lt-ltb, le-ltb}
+use Rattle.plan.specs.Meaning.{Atom}
+use Rattle.reader.specs.Format.{lenAt, word, atomIn, atomOk, endsOk, kindOk}
+use Rattle.reader.specs.Filling.{AtomRead, lastIs}
+use Rattle.reader.proofs.Steps.{atomFault, AtomStored, atom-took}
 use Rattle.reader.proofs.take_atom.Statement.{statement}
 use Rattle.reader.proofs.take_atom.Tie as tie
-use Rattle.reader.proofs.take_atom.Reads as reads
-use Rattle.reader.proofs.take_atom.Lts as lts
-use Rattle.reader.proofs.atom_ok.Reads as atom-ok-reads
-use Rattle.reader.proofs.byte.Reads as byte-reads
-use Rattle.reader.proofs.edge_uses.Reads as edge-uses-reads
-use Rattle.reader.proofs.put_atom.Reads as put-atom-reads
-use Rattle.reader.proofs.word.Reads as word-reads
+
+module _ (c : tie.Start) where
+  abbrev file : List ℕ
+  file = c .args .file .now
+
+  abbrev at : ℕ
+  at = c .args .at
+
+  abbrev atom : Atom
+  atom = atomIn file at
+
+  abbrev endsOf : Atom → Bool
+  endsOf a = endsOk (c .args .counts .nodes) (c .args .counts .variables) (a .from) (a .to) (a .variable)
+
+  abbrev edges : List ℕ
+  edges = take (c .args .counts .edges * 3) (c .args .edges .now)
+
+  stopped : (r : ℕ) → 1 ≤ r → r ≡ atomFault file at (c .args .counts) (c .args .edges .now)
+      → AtomRead file at (c .args .counts) (c .args .edges .now) (c .args .atoms .now) r (c .args .atoms .now)
+  stopped r l e = atom-took file at (c .args .counts) r (c .pre .1) (c .args .edges .now) (c .args .atoms .now) _ e (λ z. absurd (omega arith))
+
+-- the tests, as the definition's
+module _ (c : tie.Else1) where
+  abbrev entry : tie.Start
+  entry = c .before .before .before .before .before
+
+  long : eqb (lenAt (file entry) (at entry)) 9 ≡ true
+  long = eq-eqb _ 9 (sym (c .before .word .ensures) ∙ c .if1 .left)
+
+module _ (c : tie.After-kind-ok) where
+  abbrev first : tie.Else1
+  first = c .before .before
+
+  kind : kindOk (atom (entry first) .kind) (atom (entry first) .bound) ≡ c .kind-ok .result
+  kind = sym (c .kind-ok .ensures ∙ ap (λ (a : Atom). kindOk (a .kind) (a .bound)) (c .before .atom-in .ensures))
+
+module _ (c : tie.After-ends-ok) where
+  abbrev second : tie.After-kind-ok
+  second = c .before .before
+
+  abbrev start : tie.Start
+  start = entry (first second)
+
+  ranged : atomOk (start .args .counts .nodes) (start .args .counts .variables) (atom start) ≡ c .ends-ok .result
+  ranged =
+      ap (λ b. b && endsOf start (atom start)) (kind second ∙ not-false _ (c .before .if2 .left))
+      ∙ sym (c .ends-ok .ensures ∙ ap (endsOf start) (second .before .atom-in .ensures))
+
+module _ (c : tie.After-uses) where
+  abbrev third : tie.After-ends-ok
+  third = c .before .before .before .before .before
+
+  abbrev begin : tie.Start
+  begin = start third
+
+  passed : atomOk (begin .args .counts .nodes) (begin .args .counts .variables) (atom begin) ≡ true
+  passed = ranged third ∙ not-false _ (c .before .before .before .before .if3 .left)
+
+  room : ltb (begin .args .counts .atoms) 64 ≡ true
+  room = lt-ltb _ 64 (c .before .before .before .if4 .left)
+
+  used : lastIs 2 2 (edges begin) (word (file begin) (at begin + 10)) ≡ c .uses .result
+  used = sym (c .uses .ensures ∙ ap (λ (a : Atom). lastIs 2 2 (edges begin) (a .variable)) (second third .before .atom-in .ensures))
 
 returns : tie.Need-returns
-returns c = λ p cs t. stop _ _ _ _ cs _ _ (atom-len _ _ p (λ e. c .if1 .taken (c .before .before .before .before .pre .1 ∙ e)))
-
-add-byte : tie.Need-add-byte
-add-byte c = search needs
-
-byte-requires : tie.Need-byte-requires
-byte-requires c κs = search needs
-
-add-word : tie.Need-add-word
-add-word c = search needs
-
-word-requires : tie.Need-word-requires
-word-requires c κs = search needs
-
-add-word-2 : tie.Need-add-word-2
-add-word-2 c = search needs
-
-word-requires-2 : tie.Need-word-requires-2
-word-requires-2 c κs = search needs
-
-add-word-3 : tie.Need-add-word-3
-add-word-3 c = search needs
-
-word-requires-3 : tie.Need-word-requires-3
-word-requires-3 c κs = search needs
-
-add-word-4 : tie.Need-add-word-4
-add-word-4 c = search needs
-
-word-requires-4 : tie.Need-word-requires-4
-word-requires-4 c κs = search needs
-
-atom-ok-requires : tie.Need-atom-ok-requires
-atom-ok-requires c κs = search needs
+returns c =
+    let s = c .before .before .before .before .before in
+    stopped s 5 (omega arith) (simp (ne-eqb _ 9 (λ e. c .if1 .taken (c .before .word .ensures ∙ e))))
 
 returns-2 : tie.Need-returns-2
-returns-2 c = λ p cs t. stop _ _ _ _ cs _ _ (atom-range t (record { kind-is = c .before .before .before .before .before .before .byte .ensures; from-is = c .before .before .before .before .before .word .ensures; to-is = c .before .before .before .before .word2 .ensures; bound-is = c .before .before .before .word3 .ensures; variable-is = c .before .before .word4 .ensures }) (sym (c .before .before .before .before .before .before .before .before .before .before .before .pre .1) ∙ c .before .before .before .before .before .before .before .if1 .left) (sym (c .before .atom-ok .ensures) ∙ not-true _ (c .if2 .taken)))
+returns-2 c =
+    let d = first (c .before) in
+    stopped (entry d) 6 (omega arith) (simp (long d, kind (c .before) ∙ not-true _ (c .if2 .taken)))
 
 returns-3 : tie.Need-returns-3
-returns-3 c = λ p cs t. stop _ _ _ _ cs _ _ (atom-many t (record { kind-is = c .before .before .before .before .before .before .before .byte .ensures; from-is = c .before .before .before .before .before .before .word .ensures; to-is = c .before .before .before .before .before .word2 .ensures; bound-is = c .before .before .before .before .word3 .ensures; variable-is = c .before .before .before .word4 .ensures }) (sym (c .before .before .before .before .before .before .before .before .before .before .before .before .pre .1) ∙ c .before .before .before .before .before .before .before .before .if1 .left) (sym (c .before .before .atom-ok .ensures) ∙ not-false _ (c .before .if2 .left)) (c .if3 .taken))
-
-mul-e : tie.Need-mul-e
-mul-e c = search needs
-
-slice-aggregate-edge-uses : tie.Need-slice-aggregate-edge-uses
-slice-aggregate-edge-uses c = sym (length-take-le (c .before .before .before .before .before .before .before .before .before .before .before .before .before .args .counts .edges * 3) (c .before .before .before .before .before .before .before .before .before .before .before .before .before .args .edges .now) (omega (arith, c .before .before .before .before .before .before .before .before .before .before .before .before .before .pre)))
-
-edge-uses-requires : tie.Need-edge-uses-requires
-edge-uses-requires c κs = search needs
+returns-3 c =
+    let d = c .before in
+    stopped (start d) 6 (omega arith) (simp (long (first (second d)), ranged d ∙ not-true _ (c .if3 .taken)))
 
 returns-4 : tie.Need-returns-4
-returns-4 c = λ p cs t. stop _ _ _ _ cs _ _ (atom-shared t (record { kind-is = c .before .before .before .before .before .before .before .before .before .before .byte .ensures; from-is = c .before .before .before .before .before .before .before .before .before .word .ensures; to-is = c .before .before .before .before .before .before .before .before .word2 .ensures; bound-is = c .before .before .before .before .before .before .before .word3 .ensures; variable-is = c .before .before .before .before .before .before .word4 .ensures }) (sym (c .before .before .before .before .before .before .before .before .before .before .before .before .before .before .before .pre .1) ∙ c .before .before .before .before .before .before .before .before .before .before .before .if1 .left) (sym (c .before .before .before .before .before .atom-ok .ensures) ∙ not-false _ (c .before .before .before .before .if2 .left)) (c .before .before .before .if3 .left) (sym (c .before .edge-uses .ensures) ∙ c .if4 .taken))
+returns-4 c =
+    let d = c .before .before in
+    stopped (start d) 7 (omega arith) (simp (long (first (second d)), ranged d ∙ not-false _ (c .before .if3 .left), le-ltb _ 64 (c .if4 .taken)))
 
-mul-put-atom : tie.Need-mul-put-atom
-mul-put-atom c = search needs
-
-put-atom-requires : tie.Need-put-atom-requires
-put-atom-requires c κs = search needs
-
-add-t19 : tie.Need-add-t19
-add-t19 c = search needs
-
-add-t30 : tie.Need-add-t30
-add-t30 c = search needs
-
-same-length : tie.Need-same-length
-same-length c = search needs
+slice-aggregate-uses : tie.Need-slice-aggregate-uses
+slice-aggregate-uses c =
+    let s = c .before .before .before .before .before .before .before .before .before .before .before .before .before in
+    sym (length-take-le (s .args .counts .edges * 3) (s .args .edges .now) (omega (arith, s .pre)))
 
 returns-5 : tie.Need-returns-5
-returns-5 c = λ p cs t.
-    let a = c .before .before .before .before .before .before .before .before .before .before .before .before .before .before .before .before .before .before .before .args in
-    let l : lenAt (a .file .now) (a .at) ≡ 9 = sym (c .before .before .before .before .before .before .before .before .before .before .before .before .before .before .before .before .before .before .before .pre .1) ∙ c .before .before .before .before .before .before .before .before .before .before .before .before .before .before .before .if1 .left in
-    let e : a .at + 3 + lenAt (a .file .now) (a .at) ≡ a .at + 12 = omega (arith, l) in
-    let m = c .before .before .before .before .before .before .before .if3 .left in let r = c .before .before .before .before .before .before .before .before .before .before .before .before .before .before .before .before .before .before .before .pre in
-    go _ _ _ _ cs _ _ _ _ _ (atom-next t (record { kind-is = c .before .before .before .before .before .before .before .before .before .before .before .before .before .before .byte .ensures; from-is = c .before .before .before .before .before .before .before .before .before .before .before .before .before .word .ensures; to-is = c .before .before .before .before .before .before .before .before .before .before .before .before .word2 .ensures; bound-is = c .before .before .before .before .before .before .before .before .before .before .before .word3 .ensures; variable-is = c .before .before .before .before .before .before .before .before .before .before .word4 .ensures }) (sym (c .before .before .before .before .before .before .before .before .before .before .before .before .before .before .before .before .before .before .before .pre .1) ∙ c .before .before .before .before .before .before .before .before .before .before .before .before .before .before .before .if1 .left) (sym (c .before .before .before .before .before .before .before .before .before .atom-ok .ensures) ∙ not-false _ (c .before .before .before .before .before .before .before .before .if2 .left)) m (sym (c .before .before .before .before .before .edge-uses .ensures) ∙ c .before .before .before .before .if4 .left)) e
-    (record { more = omega arith; within = omega (arith, r, l); room = record { nodes = r .2 .nodes; variables = r .2 .variables; edges = r .2 .edges; atoms = omega (arith, m); clauses = r .2 .clauses; literals = r .2 .literals } })
-    (atom-tables {f = a .file .now} {at = a .at} t (record { kind-is = c .before .before .before .before .before .before .before .before .before .before .before .before .before .before .byte .ensures; from-is = c .before .before .before .before .before .before .before .before .before .before .before .before .before .word .ensures; to-is = c .before .before .before .before .before .before .before .before .before .before .before .before .word2 .ensures; bound-is = c .before .before .before .before .before .before .before .before .before .before .before .word3 .ensures; variable-is = c .before .before .before .before .before .before .before .before .before .before .word4 .ensures }) (sym (c .before .before .before .before .before .before .before .before .before .before .before .before .before .before .before .before .before .before .before .pre .1) ∙ c .before .before .before .before .before .before .before .before .before .before .before .before .before .before .before .if1 .left) _ (c .before .before .put-atom .ensures))
+returns-5 c =
+    let d = c .before in
+    stopped (begin d) 8 (omega arith) (simp (long (first (second (third d))), passed d, room d, used d ∙ c .if5 .taken))
+
+returns-6 : tie.Need-returns-6
+returns-6 c =
+    let d = c .before .before .before .before .before in
+    let s = begin d in
+    atom-took (file s) (at s) (s .args .counts) 0 (s .pre .1) (s .args .edges .now) (s .args .atoms .now) _
+    (simp (long (first (second (third d))), passed d, room d, used d ∙ c .before .before .before .before .if5 .left))
+    (λ z. subst (AtomStored (s .args .counts) (s .args .atoms .now) _) (second (third d) .before .atom-in .ensures) (c .before .before .put-atom .ensures))
 
 pub take-atom-spec : {M : Type 1} → statement M
 take-atom-spec =
     tie.close
     (tie.spec
+    (λ c. search needs)
+    (λ c κs. search needs)
     returns
-    add-byte
-    byte-requires
-    add-word
-    word-requires
-    add-word-2
-    word-requires-2
-    add-word-3
-    word-requires-3
-    add-word-4
-    word-requires-4
-    atom-ok-requires
+    (λ c κs. search needs)
+    (λ c κs. search needs)
     returns-2
+    (λ c κs. search needs)
     returns-3
-    mul-e
-    slice-aggregate-edge-uses
-    edge-uses-requires
     returns-4
-    mul-put-atom
-    put-atom-requires
-    add-t19
-    add-t30
-    same-length
-    returns-5)
+    (λ c. search needs)
+    slice-aggregate-uses
+    (λ c κs. search needs)
+    returns-5
+    (λ c. search needs)
+    (λ c κs. search needs)
+    (λ c. search needs)
+    returns-6)

@@ -1,97 +1,124 @@
-use mathlib.Core.Path.{_≡_, refl, sym, ap, _∙_}
+use mathlib.Core.Path.{_≡_, sym, ap, _∙_}
+use mathlib.Core.Bool.{Bool, true}
+use mathlib.Core.List.{List}
 use native.Mathlib.Omega.{arith}
+use Prim.Native.Nat.{ℕ, _+_, _/_, _≤_}
+use lib.Dec.{ltb}
 use borrow.Author.Needs.{needs}
-use Rattle.reader.proofs.Steps.{stop, go, clause-short, clause-odd, clause-range, clause-many, clause-full, clause-next, clause-tables}
-use borrow.Author.Tests.{not-true, not-false}
-use lib.Seq.{length-take-le}
-use Prim.Native.Nat.{ℕ, _+_, _*_}
-use Rattle.reader.specs.Format.{lenAt}
-use lib.ListN.{length}
+use borrow.Author.Tests.{not-true, not-false, eq-eqb, ne-eqb, lt-ltb, le-ltb, lt-leb, le-leb}
+use Rattle.reader.specs.Format.{lenAt, clauseIn, clauseLen, literalsIn, literalsOk}
+use Rattle.reader.specs.Filling.{ClauseRead}
+use Rattle.reader.proofs.Steps.{clauseFault, clause-took}
 use Rattle.reader.proofs.take_clause.Statement.{statement}
 use Rattle.reader.proofs.take_clause.Tie as tie
-use Rattle.reader.proofs.take_clause.Reads as reads
-use Rattle.reader.proofs.take_clause.Lts as lts
-use Rattle.reader.proofs.copy_literals.Reads as copy-literals-reads
-use Rattle.reader.proofs.literals_ok.Reads as literals-ok-reads
+
+module _ (c : tie.Start) where
+  abbrev file : List ℕ
+  file = c .args .file .now
+
+  abbrev at : ℕ
+  at = c .args .at
+
+  abbrev inRange : ℕ → Bool
+  inRange n = literalsOk (c .args .counts .variables) (literalsIn file (at + 3) n)
+
+  stopped : (r : ℕ) → 1 ≤ r → r ≡ clauseFault file at (c .args .counts) → ClauseRead file at (c .args .counts) (c .args .clauses .now) r (c .args .clauses .now)
+  stopped r l e = clause-took file at (c .args .counts) r (c .pre .1) (c .args .clauses .now) _ e (λ z. absurd (omega arith))
+
+-- the tests, as the definition's
+module _ (c : tie.After-wide) where
+  abbrev entry : tie.Start
+  entry = c .before .before .before
+
+  len-is : c .wide .result ≡ lenAt (file entry) (at entry)
+  len-is = c .wide .ensures ∙ c .before .word .ensures
+
+module _ (c : tie.Else2) where
+  abbrev measured : tie.After-wide
+  measured = c .before .before
+
+  long : clauseLen (lenAt (file (entry measured)) (at (entry measured))) ≡ true
+  unfolding clauseLen
+  long = simp (← len-is measured, le-leb 2 _ (c .before .if1 .left), eq-eqb _ _ (c .if2 .left))
+
+module _ (c : tie.After-literals-ok) where
+  abbrev first : tie.Else2
+  first = c .before
+
+  abbrev begin : tie.Start
+  begin = entry (measured first)
+
+  ranged : literalsOk (begin .args .counts .variables) (clauseIn (file begin) (at begin)) ≡ c .literals-ok .result
+  ranged = sym (c .literals-ok .ensures ∙ ap (λ n. inRange begin (n / 2)) (len-is (measured first)))
+
+module _ (c : tie.Else4) where
+  abbrev second : tie.After-literals-ok
+  second = c .before .before .before
+
+  abbrev start : tie.Start
+  start = begin second
+
+  passed : literalsOk (start .args .counts .variables) (clauseIn (file start) (at start)) ≡ true
+  passed = ranged second ∙ not-false _ (c .before .before .if3 .left)
+
+  fewer : ltb (start .args .counts .clauses) 1024 ≡ true
+  fewer = lt-ltb _ 1024 (c .if4 .left)
 
 returns : tie.Need-returns
-returns c = λ p es bs t. stop _ _ es bs _ _ _ (clause-short (c .before .before .args .file .now) (c .before .before .args .at) p (sym (c .before .before .pre .1)) (c .if1 .taken))
-
-mul-if2 : tie.Need-mul-if2
-mul-if2 c = search needs
+unfolding clauseLen
+returns c =
+    let d = c .before in
+    stopped (entry d) 5 (omega arith) (simp (← len-is d, lt-leb 2 _ (c .if1 .taken)))
 
 returns-2 : tie.Need-returns-2
-returns-2 c = λ p es bs t. stop _ _ es bs _ _ _ (clause-odd (c .before .before .before .args .file .now) (c .before .before .before .args .at) p (sym (c .before .before .before .pre .1)) (c .before .if1 .left) (c .if2 .taken))
-
-add-literals-ok : tie.Need-add-literals-ok
-add-literals-ok c = search needs
-
-literals-ok-requires : tie.Need-literals-ok-requires
-literals-ok-requires c κs = search needs
+unfolding clauseLen
+returns-2 c =
+    let d = c .before .before in
+    stopped (entry d) 5 (omega arith) (simp (← len-is d, le-leb 2 _ (c .before .if1 .left), ne-eqb _ _ (c .if2 .taken)))
 
 returns-3 : tie.Need-returns-3
-returns-3 c = λ p es bs t. stop _ _ es bs _ _ _ (clause-range (c .before .before .before .before .before .args .file .now) (c .before .before .before .before .before .args .at) t (sym (c .before .before .before .before .before .pre .1)) (c .before .before .before .if1 .left) (c .before .before .if2 .left) (sym (c .before .literals-ok .ensures) ∙ not-true _ (c .if3 .taken)))
+returns-3 c =
+    let d = c .before in
+    stopped (begin d) 6 (omega arith) (simp (long (first d), ranged d ∙ not-true _ (c .if3 .taken)))
 
 returns-4 : tie.Need-returns-4
-returns-4 c = λ p es bs t. stop _ _ es bs _ _ _ (clause-many (c .before .before .before .before .before .before .args .file .now) (c .before .before .before .before .before .before .args .at) t (sym (c .before .before .before .before .before .before .pre .1)) (c .before .before .before .before .if1 .left) (c .before .before .before .if2 .left) (sym (c .before .before .literals-ok .ensures) ∙ not-false _ (c .before .if3 .left)) (c .if4 .taken))
-
-add-if5 : tie.Need-add-if5
-add-if5 c = search needs
+returns-4 c =
+    let d = c .before .before .before in
+    stopped (begin d) 7 (omega arith) (simp (long (first d), ranged d ∙ not-false _ (c .before .before .if3 .left), le-ltb _ 1024 (c .if4 .taken)))
 
 returns-5 : tie.Need-returns-5
-returns-5 c = λ p es bs t. stop _ _ es bs _ _ _ (clause-full (c .before .before .before .before .before .before .before .args .file .now) (c .before .before .before .before .before .before .before .args .at) t (sym (c .before .before .before .before .before .before .before .pre .1)) (c .before .before .before .before .before .if1 .left) (c .before .before .before .before .if2 .left) (sym (c .before .before .before .literals-ok .ensures) ∙ not-false _ (c .before .before .if3 .left)) (c .before .if4 .left) (c .if5 .taken))
-
-add-copy-literals : tie.Need-add-copy-literals
-add-copy-literals c = search needs
-
-add-copy-literals-2 : tie.Need-add-copy-literals-2
-add-copy-literals-2 c = search needs
-
-copy-literals-requires : tie.Need-copy-literals-requires
-copy-literals-requires c κs = search needs
-
-add-t12 : tie.Need-add-t12
-add-t12 c = search needs
-
-add-t21 : tie.Need-add-t21
-add-t21 c = search needs
-
-add-t22 : tie.Need-add-t22
-add-t22 c = search needs
-
-add-t23 : tie.Need-add-t23
-add-t23 c = search needs
-
-same-length : tie.Need-same-length
-same-length c = search needs
+returns-5 c =
+    let d = c .before .before in
+    stopped (start d) 7 (omega arith)
+    (simp (long (first (second d)), passed d, fewer d, ← len-is (measured (first (second d))), lt-leb _ 4096 (c .if5 .taken)))
 
 returns-6 : tie.Need-returns-6
-returns-6 c = λ p es bs t.
-    let a = c .before .before .before .before .before .before .before .before .before .before .args in let m = c .before .before .before .before .if4 .left in let k = c .before .before .before .if5 .left in let r = c .before .before .before .before .before .before .before .before .before .before .pre in
-    let e : a .at + 3 + lenAt (a .file .now) (a .at) ≡ a .at + 3 + a .len = omega (arith, r .1) in
-    go _ _ es bs _ _ _ _ _ _ (clause-next (c .before .before .before .before .before .before .before .before .before .before .args .file .now) (c .before .before .before .before .before .before .before .before .before .before .args .at) t (sym (c .before .before .before .before .before .before .before .before .before .before .pre .1)) (c .before .before .before .before .before .before .before .before .if1 .left) (c .before .before .before .before .before .before .before .if2 .left) (sym (c .before .before .before .before .before .before .literals-ok .ensures) ∙ not-false _ (c .before .before .before .before .before .if3 .left)) m k) e
-    (record { more = omega arith; within = r .0; room = record { nodes = r .2 .nodes; variables = r .2 .variables; edges = r .2 .edges; atoms = r .2 .atoms; clauses = omega (arith, m); literals = k } })
-    (clause-tables (c .before .before .before .before .before .before .before .before .before .before .args .file .now) (c .before .before .before .before .before .before .before .before .before .before .args .at) t (sym (c .before .before .before .before .before .before .before .before .before .before .pre .1)) (c .before .before .before .before .before .before .before .before .if1 .left) (c .before .before .before .before .before .before .before .if2 .left) _ (c .before .copy-literals .ensures))
+returns-6 c =
+    let d = c .before .before .before .before .before .before in
+    let s = start d in
+    let l = len-is (measured (first (second d))) in
+    clause-took (file s) (at s) (s .args .counts) 0 (s .pre .1) (s .args .clauses .now) _
+    (simp (long (first (second d)), passed d, fewer d, ← l, le-leb _ 4096 (c .before .before .before .before .if5 .left)))
+    (λ z. rw (← l) (c .before .copy-literals .ensures))
 
 pub take-clause-spec : {M : Type 1} → statement M
 take-clause-spec =
     tie.close
     (tie.spec
+    (λ c. search needs)
+    (λ c κs. search needs)
+    (λ c κs. search needs)
     returns
-    mul-if2
+    (λ c. search needs)
     returns-2
-    add-literals-ok
-    literals-ok-requires
+    (λ c. search needs)
+    (λ c κs. search needs)
     returns-3
     returns-4
-    add-if5
+    (λ c. search needs)
     returns-5
-    add-copy-literals
-    add-copy-literals-2
-    copy-literals-requires
-    add-t12
-    add-t21
-    add-t22
-    add-t23
-    same-length
+    (λ c. search needs)
+    (λ c. search needs)
+    (λ c κs. search needs)
+    (λ c. search needs)
     returns-6)

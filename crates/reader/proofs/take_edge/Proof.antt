@@ -1,109 +1,117 @@
-use mathlib.Core.Path.{_≡_, refl, sym, ap, _∙_}
+use mathlib.Core.Path.{_≡_, sym, ap, _∙_, subst}
+use mathlib.Core.Bool.{true}
+use mathlib.Core.List.{List}
 use native.Mathlib.Omega.{arith}
-use Rattle.reader.proofs.Steps.{stop, go, edge-len, edge-range, edge-many, edge-shared, edge-next, edge-tables}
-use borrow.Author.Tests.{not-true, not-false}
+use Prim.Native.Nat.{ℕ, _+_, _*_, _≤_}
+use lib.Dec.{eqb, ltb}
+use lib.ListN.{take}
 use lib.Seq.{length-take-le}
-use Prim.Native.Nat.{ℕ, _+_, _*_}
-use Rattle.reader.specs.Format.{lenAt}
-use lib.ListN.{length}
 use borrow.Author.Needs.{needs}
+use borrow.Author.Tests.{not-true, not-false, eq-eqb, ne-eqb, lt-ltb, le-ltb}
+use Rattle.plan.specs.Meaning.{Edge}
+use Rattle.reader.specs.Format.{lenAt, word, edgeIn, edgeOk}
+use Rattle.reader.specs.Filling.{EdgeRead, lastIs}
+use Rattle.reader.proofs.Steps.{edgeFault, EdgeStored, edge-took}
 use Rattle.reader.proofs.take_edge.Statement.{statement}
 use Rattle.reader.proofs.take_edge.Tie as tie
-use Rattle.reader.proofs.take_edge.Reads as reads
-use Rattle.reader.proofs.take_edge.Lts as lts
-use Rattle.reader.proofs.atom_uses.Reads as atom-uses-reads
-use Rattle.reader.proofs.ends_ok.Reads as ends-ok-reads
-use Rattle.reader.proofs.put_edge.Reads as put-edge-reads
-use Rattle.reader.proofs.word.Reads as word-reads
+
+module _ (c : tie.Start) where
+  abbrev file : List ℕ
+  file = c .args .file .now
+
+  abbrev at : ℕ
+  at = c .args .at
+
+  abbrev atoms : List ℕ
+  atoms = take (c .args .counts .atoms * 5) (c .args .atoms .now)
+
+  stopped : (r : ℕ) → 1 ≤ r → r ≡ edgeFault file at (c .args .counts) (c .args .atoms .now)
+      → EdgeRead file at (c .args .counts) (c .args .edges .now) (c .args .atoms .now) r (c .args .edges .now)
+  stopped r l e = edge-took file at (c .args .counts) r (c .pre .1) (c .args .edges .now) (c .args .atoms .now) _ e (λ z. absurd (omega arith))
+
+-- the tests, as the definition's
+module _ (c : tie.Else1) where
+  abbrev entry : tie.Start
+  entry = c .before .before .before .before .before
+
+  long : eqb (lenAt (file entry) (at entry)) 6 ≡ true
+  long = eq-eqb _ 6 (sym (c .before .word .ensures) ∙ c .if1 .left)
+
+module _ (c : tie.After-ends-ok) where
+  abbrev first : tie.Else1
+  first = c .before .before
+
+  abbrev start : tie.Start
+  start = entry first
+
+  ranged : edgeOk (start .args .counts .nodes) (start .args .counts .variables) (edgeIn (file start) (at start)) ≡ c .ends-ok .result
+  ranged = sym (c .ends-ok .ensures ∙ ap (edgeOk _ _) (c .before .edge-in .ensures))
+
+module _ (c : tie.After-uses) where
+  abbrev second : tie.After-ends-ok
+  second = c .before .before .before .before .before
+
+  abbrev begin : tie.Start
+  begin = start second
+
+  passed : edgeOk (begin .args .counts .nodes) (begin .args .counts .variables) (edgeIn (file begin) (at begin)) ≡ true
+  passed = ranged second ∙ not-false _ (c .before .before .before .before .if2 .left)
+
+  room : ltb (begin .args .counts .edges) 256 ≡ true
+  room = lt-ltb _ 256 (c .before .before .before .if3 .left)
+
+  used : lastIs 4 4 (atoms begin) (word (file begin) (at begin + 7)) ≡ c .uses .result
+  used = sym (c .uses .ensures ∙ ap (λ (e : Edge). lastIs 4 4 (atoms begin) (e .variable)) (second .before .edge-in .ensures))
 
 returns : tie.Need-returns
-returns c = λ p cs t. stop _ _ _ _ cs _ _ (edge-len _ _ p (λ e. c .if1 .taken (c .before .before .before .before .pre .1 ∙ e)))
-
-add-word : tie.Need-add-word
-add-word c = search needs
-
-word-requires : tie.Need-word-requires
-word-requires c κs = search needs
-
-add-word-2 : tie.Need-add-word-2
-add-word-2 c = search needs
-
-word-requires-2 : tie.Need-word-requires-2
-word-requires-2 c κs = search needs
-
-add-word-3 : tie.Need-add-word-3
-add-word-3 c = search needs
-
-word-requires-3 : tie.Need-word-requires-3
-word-requires-3 c κs = search needs
-
-ends-ok-requires : tie.Need-ends-ok-requires
-ends-ok-requires c κs = search needs
+returns c =
+    let s = c .before .before .before .before .before in
+    stopped s 5 (omega arith) (simp (ne-eqb _ 6 (λ e. c .if1 .taken (c .before .word .ensures ∙ e))))
 
 returns-2 : tie.Need-returns-2
-returns-2 c = λ p cs t. stop _ _ _ _ cs _ _ (edge-range t (record { from-is = c .before .before .before .before .word .ensures; to-is = c .before .before .before .word2 .ensures; variable-is = c .before .before .word3 .ensures }) (sym (c .before .before .before .before .before .before .before .before .before .pre .1) ∙ c .before .before .before .before .before .if1 .left) (sym (c .before .ends-ok .ensures) ∙ not-true _ (c .if2 .taken)))
+returns-2 c =
+    let d = c .before in
+    stopped (start d) 6 (omega arith) (simp (long (first d), ranged d ∙ not-true _ (c .if2 .taken)))
 
 returns-3 : tie.Need-returns-3
-returns-3 c = λ p cs t. stop _ _ _ _ cs _ _ (edge-many t (record { from-is = c .before .before .before .before .before .word .ensures; to-is = c .before .before .before .before .word2 .ensures; variable-is = c .before .before .before .word3 .ensures }) (sym (c .before .before .before .before .before .before .before .before .before .before .pre .1) ∙ c .before .before .before .before .before .before .if1 .left) (sym (c .before .before .ends-ok .ensures) ∙ not-false _ (c .before .if2 .left)) (c .if3 .taken))
+returns-3 c =
+    let d = c .before .before in
+    stopped (start d) 7 (omega arith) (simp (long (first d), ranged d ∙ not-false _ (c .before .if2 .left), le-ltb _ 256 (c .if3 .taken)))
 
-mul-e : tie.Need-mul-e
-mul-e c = search needs
-
-slice-aggregate-atom-uses : tie.Need-slice-aggregate-atom-uses
-slice-aggregate-atom-uses c = sym (length-take-le (c .before .before .before .before .before .before .before .before .before .before .before .args .counts .atoms * 5) (c .before .before .before .before .before .before .before .before .before .before .before .args .atoms .now) (omega (arith, c .before .before .before .before .before .before .before .before .before .before .before .pre)))
-
-atom-uses-requires : tie.Need-atom-uses-requires
-atom-uses-requires c κs = search needs
+slice-aggregate-uses : tie.Need-slice-aggregate-uses
+slice-aggregate-uses c =
+    let s = c .before .before .before .before .before .before .before .before .before .before .before in
+    sym (length-take-le (s .args .counts .atoms * 5) (s .args .atoms .now) (omega (arith, s .pre)))
 
 returns-4 : tie.Need-returns-4
-returns-4 c = λ p cs t. stop _ _ _ _ cs _ _ (edge-shared t (record { from-is = c .before .before .before .before .before .before .before .before .word .ensures; to-is = c .before .before .before .before .before .before .before .word2 .ensures; variable-is = c .before .before .before .before .before .before .word3 .ensures }) (sym (c .before .before .before .before .before .before .before .before .before .before .before .before .before .pre .1) ∙ c .before .before .before .before .before .before .before .before .before .if1 .left) (sym (c .before .before .before .before .before .ends-ok .ensures) ∙ not-false _ (c .before .before .before .before .if2 .left)) (c .before .before .before .if3 .left) (sym (c .before .atom-uses .ensures) ∙ c .if4 .taken))
-
-mul-put-edge : tie.Need-mul-put-edge
-mul-put-edge c = search needs
-
-put-edge-requires : tie.Need-put-edge-requires
-put-edge-requires c κs = search needs
-
-add-t17 : tie.Need-add-t17
-add-t17 c = search needs
-
-add-t28 : tie.Need-add-t28
-add-t28 c = search needs
-
-same-length : tie.Need-same-length
-same-length c = search needs
+returns-4 c =
+    let d = c .before in
+    stopped (begin d) 8 (omega arith) (simp (long (first (second d)), passed d, room d, used d ∙ c .if4 .taken))
 
 returns-5 : tie.Need-returns-5
-returns-5 c = λ p cs t.
-    let a = c .before .before .before .before .before .before .before .before .before .before .before .before .before .before .before .before .before .args in
-    let l : lenAt (a .file .now) (a .at) ≡ 6 = sym (c .before .before .before .before .before .before .before .before .before .before .before .before .before .before .before .before .before .pre .1) ∙ c .before .before .before .before .before .before .before .before .before .before .before .before .before .if1 .left in
-    let e : a .at + 3 + lenAt (a .file .now) (a .at) ≡ a .at + 9 = omega (arith, l) in
-    let m = c .before .before .before .before .before .before .before .if3 .left in let r = c .before .before .before .before .before .before .before .before .before .before .before .before .before .before .before .before .before .pre in
-    go _ _ _ _ cs _ _ _ _ _ (edge-next t (record { from-is = c .before .before .before .before .before .before .before .before .before .before .before .before .word .ensures; to-is = c .before .before .before .before .before .before .before .before .before .before .before .word2 .ensures; variable-is = c .before .before .before .before .before .before .before .before .before .before .word3 .ensures }) (sym (c .before .before .before .before .before .before .before .before .before .before .before .before .before .before .before .before .before .pre .1) ∙ c .before .before .before .before .before .before .before .before .before .before .before .before .before .if1 .left) (sym (c .before .before .before .before .before .before .before .before .before .ends-ok .ensures) ∙ not-false _ (c .before .before .before .before .before .before .before .before .if2 .left)) m (sym (c .before .before .before .before .before .atom-uses .ensures) ∙ c .before .before .before .before .if4 .left)) e
-    (record { more = omega arith; within = omega (arith, r, l); room = record { nodes = r .2 .nodes; variables = r .2 .variables; edges = omega (arith, m); atoms = r .2 .atoms; clauses = r .2 .clauses; literals = r .2 .literals } })
-    (edge-tables {f = a .file .now} {at = a .at} t (record { from-is = c .before .before .before .before .before .before .before .before .before .before .before .before .word .ensures; to-is = c .before .before .before .before .before .before .before .before .before .before .before .word2 .ensures; variable-is = c .before .before .before .before .before .before .before .before .before .before .word3 .ensures }) (sym (c .before .before .before .before .before .before .before .before .before .before .before .before .before .before .before .before .before .pre .1) ∙ c .before .before .before .before .before .before .before .before .before .before .before .before .before .if1 .left) _ (c .before .before .put-edge .ensures))
+returns-5 c =
+    let d = c .before .before .before .before .before in
+    let s = begin d in
+    edge-took (file s) (at s) (s .args .counts) 0 (s .pre .1) (s .args .edges .now) (s .args .atoms .now) _
+    (simp (long (first (second d)), passed d, room d, used d ∙ c .before .before .before .before .if4 .left))
+    (λ z. subst (EdgeStored (s .args .counts) (s .args .edges .now) _) (second d .before .edge-in .ensures) (c .before .before .put-edge .ensures))
 
 pub take-edge-spec : {M : Type 1} → statement M
 take-edge-spec =
     tie.close
     (tie.spec
+    (λ c. search needs)
+    (λ c κs. search needs)
     returns
-    add-word
-    word-requires
-    add-word-2
-    word-requires-2
-    add-word-3
-    word-requires-3
-    ends-ok-requires
+    (λ c κs. search needs)
+    (λ c κs. search needs)
     returns-2
     returns-3
-    mul-e
-    slice-aggregate-atom-uses
-    atom-uses-requires
+    (λ c. search needs)
+    slice-aggregate-uses
+    (λ c κs. search needs)
     returns-4
-    mul-put-edge
-    put-edge-requires
-    add-t17
-    add-t28
-    same-length
+    (λ c. search needs)
+    (λ c κs. search needs)
+    (λ c. search needs)
     returns-5)
