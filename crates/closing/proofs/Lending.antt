@@ -13,11 +13,10 @@ use Rattle.plan.specs.Meaning.{atom}
 use Rattle.plan.specs.Ranged.{LiteralFits}
 use Rattle.plan.specs.Search.{Assigned}
 use Rattle.plan.specs.Written.{flat}
-use Rattle.plan.specs.Tables.{edgesOf, atomsOf, clausesOf, planOf, Lent}
+use Rattle.plan.specs.Tables.{atomsOf, clausesOf, planOf, Lent}
 use Rattle.plan.specs.declared.Plan.{Plan}
 use Rattle.plan.proofs.Tables.{atoms-length}
 use Rattle.plan.proofs.Walks.{le-or-lt, mem-at}
-use Rattle.walk.specs.Hopping.{Inside, Placed}
 use Rattle.closing.specs.Clauses.{Table, Ready, HasClauses}
 use Rattle.closing.specs.Atoms.{AtomFits, AtomsReady, HasAtoms}
 
@@ -68,15 +67,9 @@ module _ (p : Plan) (es bs : List ℕ) (cs : List ℤ) (lent : Lent p es bs cs) 
         (flat-each (LiteralFits (p .variables)) (clausesOf cs) (lent .ranged .literal) k) h n;
   }
 
-  pub lent-inside : Inside (edgesOf es)
-  lent-inside e m = let h = lent .ranged .nodes in (omega (arith, lent .ranged .edge e m .from-in), omega (arith, lent .ranged .edge e m .to-in))
-
   module _ (a : List ℤ) (s : Assigned (p .variables) a) where
     sized : Assigned (length a) a
     sized = subst (λ n. Assigned n a) (sym (s .long)) s
-
-    pub lent-placed : Placed (edgesOf es) (length a)
-    lent-placed e m = (lent .ranged .edge e m .low, omega (arith, lent .ranged .edge e m .high, s .long))
 
     pub lent-ready : Ready cs a
     lent-ready = record { shape = sized; small = omega (arith, lent .ranged .variables, s .long); table = subst (λ n. Table n cs) (sym (s .long)) lent-table }

@@ -2,7 +2,8 @@ use mathlib.Core.Path.{sym, _∙_}
 use mathlib.Core.List.{List}
 use lib.IntN.{ℤ}
 use Rattle.plan.specs.Search.{Assigned}
-use Rattle.closing.proofs.Lending.{lent-inside, lent-placed, lent-ready, lent-atoms}
+use Rattle.walk.proofs.Lending.{lent-inside, lent-placed}
+use Rattle.closing.proofs.Lending.{lent-ready, lent-atoms}
 use Rattle.closing.proofs.Rounds.{shape-after, round-clash, round-still, round-set}
 use borrow.Author.Needs.{needs}
 use Rattle.closing.proofs.round.Statement.{statement}
@@ -13,7 +14,7 @@ look-at-atoms-requires c κs =
     let b = c .before .before .before in
     let t = b .args in (
       lent-atoms (t .plan) (t .edges .now) (t .atoms .now) (t .clauses .now) (b .pre .0) (t .values .now) (b .pre .1 .0),
-      (lent-inside (t .plan) (t .edges .now) (t .atoms .now) (t .clauses .now) (b .pre .0), lent-placed (t .plan) (t .edges .now) (t .atoms .now) (t .clauses .now) (b .pre .0) (t .values .now) (b .pre .1 .0)),
+      (lent-inside (b .pre .0), lent-placed (b .pre .0) _ (b .pre .1 .0 .long)),
     )
 
 -- after the look at the atoms
@@ -38,7 +39,7 @@ pass-on-requires c κs =
     let d = c .before .before .before .before in
     let t = begin d .args in (
       lent-ready (t .plan) (t .edges .now) (t .atoms .now) (t .clauses .now) (begin d .pre .0) (between d) (shape d),
-      lent-placed (t .plan) (t .edges .now) (t .atoms .now) (t .clauses .now) (begin d .pre .0) (between d) (shape d),
+      lent-placed (begin d .pre .0) _ (shape d .long),
     )
 
 enum-told-3 : tie.Need-enum-told-3
