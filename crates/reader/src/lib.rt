@@ -71,6 +71,7 @@ fn literal(x: u16) -> i16
     }
 }
 
+// The ranges of document 01. Each test has its own return: what a test says is lost behind a joined branch.
 fn head_ok(nodes: u16, variables: u16) -> bool
     ensures { λ r. ⌜ r ≡ headOk nodes variables ⌝ }
 {
@@ -113,6 +114,7 @@ fn kind_ok(kind: u16, bound: u16) -> bool
     false
 }
 
+// A literal is tested before it becomes a signed number, so that -32,768 needs no case of its own.
 fn literal_ok(variables: u16, x: u16) -> bool
     ensures { λ r. ⌜ r ≡ literalOk variables (twos x) ⌝ }
 {
@@ -174,6 +176,7 @@ fn uses(table: &[u16], before: usize, variable: u16) -> bool
     false
 }
 
+// The edge of the record at an offset.
 fn edge_in(file: &[u8], at: usize) -> Edge
     requires { ⌜ at + 9 ≤ length (now file) ⌝ }
     ensures { λ r. ⌜ edgeOf r ≡ edgeIn (now (file .entry)) at ⌝ }
@@ -185,6 +188,7 @@ fn edge_in(file: &[u8], at: usize) -> Edge
     }
 }
 
+// The atom of the record at an offset.
 fn atom_in(file: &[u8], at: usize) -> Atom
     requires { ⌜ at + 12 ≤ length (now file) ⌝ }
     ensures { λ r. ⌜ atomOf r ≡ atomIn (now (file .entry)) at ⌝ }
@@ -198,6 +202,7 @@ fn atom_in(file: &[u8], at: usize) -> Atom
     }
 }
 
+// Writes one row of the edge table; put_atom one of the atom table.
 fn put_edge(table: &mut [u16], row: usize, edge: Edge)
     requires { ⌜ row + 3 ≤ length (now table) ⌝ }
     ensures { λ _. ⌜ take (row + 3) (now (table .exit)) ≡ take row (now (table .entry)) ++ (edge .from ∷ edge .to ∷ edge .variable ∷ []) ⌝ }
@@ -218,7 +223,8 @@ fn put_atom(table: &mut [u16], row: usize, atom: Atom)
     table[row + 4] = atom.variable;
 }
 
-// Takes an edge into its table, unless a number of refusal is returned. So do the two below.
+// Takes the edge of the record at an offset into its table, and returns NONE; or returns the number of the first refusal
+// that the record meets, in the document's order. take_atom and take_clause do the same for their sorts.
 fn take_edge(file: &[u8], at: usize, counts: Plan, edges: &mut [u16], atoms: &[u16]) -> u8
     requires { ⌜ (after (now file) at ≤ length (now file)) × Room counts × (length (now edges) ≡ 768) × (length (now atoms) ≡ 320) ⌝ }
     ensures { λ r. ⌜ EdgeRead (now (file .entry)) at counts (now (edges .entry)) (now (atoms .entry)) r (now (edges .exit)) ⌝ }
@@ -305,7 +311,7 @@ fn take_clause(file: &[u8], at: usize, counts: Plan, clauses: &mut [i16]) -> u8
     NONE
 }
 
-// Takes the record at an offset into its table, unless a number of refusal is returned. What follows an end record is not looked at here.
+// The same for a record of any sort. What follows an end record is looked at by `end`.
 fn take_record(
     file: &[u8],
     at: usize,
@@ -356,37 +362,21 @@ fn one_more(file: &[u8], at: usize, counts: Plan) -> Plan
     ensures { λ r. ⌜ r ≡ oneMore (now (file .entry)) at counts ⌝ }
 {
     let tag = file[at];
+    let mut next = counts;
     if tag == 2 {
-        return Plan {
-            nodes: counts.nodes,
-            variables: counts.variables,
-            edges: counts.edges + 1,
-            atoms: counts.atoms,
-            clauses: counts.clauses,
-            literals: counts.literals,
-        };
+        next.edges += 1;
+        return next;
     }
     if tag == 3 {
-        return Plan {
-            nodes: counts.nodes,
-            variables: counts.variables,
-            edges: counts.edges,
-            atoms: counts.atoms + 1,
-            clauses: counts.clauses,
-            literals: counts.literals,
-        };
+        next.atoms += 1;
+        return next;
     }
     if tag == 4 {
-        return Plan {
-            nodes: counts.nodes,
-            variables: counts.variables,
-            edges: counts.edges,
-            atoms: counts.atoms,
-            clauses: counts.clauses + 1,
-            literals: counts.literals + wide(word(file, at + 1)) / 2,
-        };
+        next.clauses += 1;
+        next.literals += wide(word(file, at + 1)) / 2;
+        return next;
     }
-    counts
+    next
 }
 
 // What a refusal's number stands for. The file's length alone is refused with no offset.

@@ -73,9 +73,11 @@ unfolding stepAt
 returns-6 c =
     let b = c .before .before .before in
     let d = b .before .before .before in
-    record-stops (file d) (at d) (entry d .args .counts) (omega arith) (omega arith)
-    (λ p.
-    simp (fitting d, ne-eqb _ 1 (b .before .if2 .left), ne-eqb _ 2 (b .if3 .left), ne-eqb _ 3 (c .before .before .if4 .left), ne-eqb _ 4 (c .before .if5 .left), ne-eqb _ 5 (c .if6 .taken)))
+    let n1 = ne-eqb _ 1 (b .before .if2 .left) in
+    let n2 = ne-eqb _ 2 (b .if3 .left) in
+    let n3 = ne-eqb _ 3 (c .before .before .if4 .left) in
+    let n4 = ne-eqb _ 4 (c .before .if5 .left) in
+    record-stops (file d) (at d) (entry d .args .counts) (omega arith) (omega arith) (λ p. simp (fitting d, n1, n2, n3, n4, ne-eqb _ 5 (c .if6 .taken)))
 
 word-requires : tie.Need-word-requires
 word-requires c κs = omega (arith, within (c .before .before .before .before .before .before))
