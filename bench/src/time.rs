@@ -101,19 +101,21 @@ fn once(engine: &Timed, file: &[u8], branchings: u32) -> f64 {
 }
 
 /// The steps by themselves, done by hand: a walk with everything lit, a closing
-/// from all open, and a number of the written clauses.
+/// from all open, a number of the written clauses, and a reading, which is the
+/// reference's.
 fn time_steps() {
     println!("\nsteps by hand, in nanoseconds");
     println!(
-        "{:<10}{:>12}{:>12}{:>12}",
-        "file", "walk", "closing", "number"
+        "{:<10}{:>12}{:>12}{:>12}{:>12}",
+        "file", "walk", "closing", "number", "reading"
     );
     for heavy in heavy::files() {
         let walk = time_walk(&heavy.plan);
         let closing = time_closing(&heavy.plan);
         let number = time_number(&heavy.plan);
+        let reading = time_reading(&to_bytes(&heavy.plan));
         println!(
-            "{:<10}{walk:>12.0}{closing:>12.0}{number:>12.2}",
+            "{:<10}{walk:>12.0}{closing:>12.0}{number:>12.2}{reading:>12.0}",
             heavy.name
         );
     }
@@ -148,10 +150,20 @@ fn time_closing(plan: &PlanFile) -> f64 {
     times.fold(f64::INFINITY, f64::min)
 }
 
-/// The list of the first atoms, up to a million numbers.
+fn time_reading(bytes: &[u8]) -> f64 {
+    const TIMES: usize = 2_000;
+    let time = best(|| {
+        for _ in 0..TIMES {
+            black_box(read(black_box(bytes)).is_ok());
+        }
+    });
+    time.as_nanos() as f64 / TIMES as f64
+}
+
+/// The list of the first atoms, up to half a million numbers.
 fn time_number(plan: &PlanFile) -> f64 {
     let mut plan = plan.clone();
-    while clauses::counts(&plan).numbers > 1_000_000 {
+    while clauses::counts(&plan).numbers > 500_000 {
         plan.atoms.pop();
     }
     let numbers = clauses::counts(&plan).numbers;
