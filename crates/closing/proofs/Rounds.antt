@@ -17,19 +17,22 @@ use Rattle.plan.specs.Closing.{unit, holds, fails, Obeys, Clashes}
 use Rattle.plan.specs.Search.{Assigned, opens, nothing, found, Closes}
 use Rattle.plan.specs.Tables.{edgesOf, clausesOf, planOf, Lent}
 use Rattle.plan.specs.declared.Plan.{Plan}
+use Rattle.plan.proofs.Add.{IsValue}
 use Rattle.plan.proofs.Exists.{step-done}
-use Rattle.plan.proofs.Tables.{atoms-length}
+use Rattle.plan.proofs.Tables.{atoms-length, edges-most}
 use Rattle.plan.proofs.Values.{true-on, true-off, value-at}
 use Rattle.plan.proofs.Walks.{le-or-lt, true-mono, at-mem}
 use Rattle.walk.specs.Hopping.{Placed}
-use Rattle.walk.proofs.Filling.{edges-most}
-use Rattle.closing.specs.Closed.{Onward, Tells}
-use Rattle.closing.specs.Clauses.{AllQuiet}
+use Rattle.walk.proofs.Lending.{lent-placed}
+use Rattle.unit.specs.Onward.{Onward}
+use Rattle.closing.specs.Closed.{Tells}
+use Rattle.unit.specs.Clauses.{AllQuiet}
+use Rattle.unit.specs.Queue.{BeginsWith, Since}
 use Rattle.closing.specs.Atoms.{AtomsReady, givenBy, SaysIn, SameEdges, HasAtoms, Swept, Looked, ByEdges, AtomsQuiet, AtomsSeen, AllLooked, afterSet}
-use Rattle.closing.specs.Rounds.{BeginsWith, Passes, PassedOn, Turns, Round}
+use Rattle.closing.specs.Rounds.{Passes, PassedOn, Turns, Round}
 use Rattle.closing.specs.declared.Step.{Step}
 use Rattle.closing.specs.declared.Step.the-variants.{Clash, Set, Still}
-use Rattle.closing.proofs.Steps.{onward-none, onward-then, onward-fewer}
+use Rattle.unit.proofs.Steps.{onward-none, onward-then, onward-fewer}
 use Rattle.closing.proofs.Lending.{lent-has-clauses, lent-has-atoms}
 
 -- with the same edges an atom says the same
@@ -123,6 +126,24 @@ module _ (es bs : List ℕ) (count : ℕ) (u v w : List ℤ) (ready : AtomsReady
 pub quiet-kept : (φ : PlanFile) → Ranged φ → (v w : List ℤ) → Onward φ v w → SameEdges (φ .edges) v w → AtomsQuiet φ v → AtomsQuiet φ w
 quiet-kept φ ok v w o s q over A m x = o .above _ (q over A m (says-same over φ ok v w s A x))
 
+-- what a variable is at first and at the end, it is between
+module _ (φ : PlanFile) (u v w : List ℤ) (s : Assigned (φ .variables) u) (a : Onward φ u v) (b : Onward φ v w) where
+  module _ (x : ℕ) (low : 0 < x) (high : x ≤ φ .variables) (e : value w x ≡ value u x) where
+    is-value : (c : List ℤ) → Assigned (φ .variables) c → IsValue (value c x)
+    is-value c t = rw (value-at c x (x - 1) low refl) (t .each (x - 1) (omega arith))
+
+    value-between : IsValue (value u x) → IsValue (value v x) → value w x ≡ value v x
+    value-between i (inl p) = true-on w x .0 (b .above _ (true-on v x .1 p)) ∙ sym p
+    value-between i (inr (inl p)) = true-off w x low .0 (b .above _ (true-off v x low .1 p)) ∙ sym p
+    value-between (inl q) (inr (inr p)) = e ∙ q ∙ sym (true-on v x .0 (a .above _ (true-on u x .1 q)))
+    value-between (inr (inl q)) (inr (inr p)) = e ∙ q ∙ sym (true-off v x low .0 (a .above _ (true-off u x low .1 q)))
+    value-between (inr (inr q)) (inr (inr p)) = e ∙ q ∙ sym p
+
+  same-between : Ranged φ → SameEdges (φ .edges) u w → SameEdges (φ .edges) v w
+  same-between ok h d m =
+      let f = ok .edge d m in
+      value-between (d .variable) (f .low) (f .high) (h d m) (is-value (d .variable) (f .low) (f .high) (h d m) u s) (is-value (d .variable) (f .low) (f .high) (h d m) v (a .shape))
+
 -- all quiet: closed
 pub all-quiet : (φ : PlanFile) → Ranged φ → (a : List ℤ) → Assigned (φ .variables) a → AllQuiet (trueIn a) (φ .clauses) → AtomsQuiet φ a → Closes φ a a
 all-quiet φ ok a s q r = step-done φ ok a s obeys (λ C m f. q C m .free f)
@@ -149,7 +170,7 @@ same-one es v w k s e j h = go (le-or-lt k j)
     go (inr i) = s j i
 
 -- a copy has the same values
-pub same-copy : (es : List ℕ) (v r w : List ℤ) → Placed (edgesOf es) (length v) → BeginsWith r v → SameEdges (edgesOf es) r w → SameEdges (edgesOf es) v w
+same-copy : (es : List ℕ) (v r w : List ℤ) → Placed (edgesOf es) (length v) → BeginsWith r v → SameEdges (edgesOf es) r w → SameEdges (edgesOf es) v w
 same-copy es v r w p b s e m =
     let q = p e m in
     s e m ∙ value-at r (e .variable) (e .variable - 1) (q .0) refl ∙ b (e .variable - 1) (omega (arith, q .0, q .1)) ∙ sym (value-at v (e .variable) (e .variable - 1) (q .0) refl)
@@ -171,6 +192,13 @@ module _ (p : Plan) (es bs : List ℕ) (cs : List ℤ) (lent : Lent p es bs cs) 
     seen : AtomsSeen (planOf p es bs cs) v u r
     seen = a .seen (planOf p es bs cs) (lent-has-atoms p es bs cs lent v s) refl
 
+    -- the copy that was made before the look
+    pub since-atoms : (copy : List ℤ) → BeginsWith copy v → Since cs copy u
+    since-atoms copy begins = record {
+      kept = record { before = v; begins = begins; shape = subst (λ n. Assigned n v) (sym (seen .onward .shape .long)) s; above = seen .onward .above };
+      quiet = q;
+    }
+
     pub round-clash : r ≡ Clash → Round (planOf p es bs cs) v u Clash
     round-clash e = record { onward = seen .onward; turns = subst (λ z. Tells (Clashes (planOf p es bs cs) (trueIn v)) v u z) e (seen .tells) }
 
@@ -182,8 +210,8 @@ module _ (p : Plan) (es bs : List ℕ) (cs : List ℤ) (lent : Lent p es bs cs) 
         still-apart : Still ≡ Clash → ⊥
         still-apart c = let z : _≡_ {A = ℕ} 0 1 = cc in omega arith
 
-    pub round-set : r ≡ Set → (w : List ℤ) (z : Step) → PassedOn es cs u w z → Round (planOf p es bs cs) v w z
-    round-set e w z b = record { onward = onward-then (planOf p es bs cs) v u w (seen .onward) next; turns = turns z (b .passes) }
+    pub round-set : r ≡ Set → (copy : List ℤ) → BeginsWith copy v → (w : List ℤ) (z : Step) → PassedOn es cs copy u w z → Round (planOf p es bs cs) v w z
+    round-set e copy begins w z b = record { onward = onward-then (planOf p es bs cs) v u w (seen .onward) next; turns = turns z (b .passes) }
       where
         next : Onward (planOf p es bs cs) u w
         next = b .onward (planOf p es bs cs) (lent-has-clauses p es bs cs lent u (seen .onward .shape))
@@ -194,10 +222,13 @@ module _ (p : Plan) (es bs : List ℕ) (cs : List ℤ) (lent : Lent p es bs cs) 
         set-apart : Set ≡ Clash → ⊥
         set-apart c = let z : _≡_ {A = ℕ} 0 1 = cc in omega arith
 
-        turns : (x : Step) → Passes es cs u w x → Turns (planOf p es bs cs) v w x
+        same : SameEdges (edgesOf es) copy w → SameEdges (edgesOf es) u w
+        same h = same-between (planOf p es bs cs) v u w s (seen .onward) next (lent .ranged) (same-copy es v copy w (lent-placed lent (length v) (s .long)) begins h)
+
+        turns : (x : Step) → Passes es cs copy u w x → Turns (planOf p es bs cs) v w x
         turns Clash f = seen .onward .back nothing (f (planOf p es bs cs) (lent-has-clauses p es bs cs lent u (seen .onward .shape)))
         turns Set f = (f, omega (arith, fewer, onward-fewer (planOf p es bs cs) u w (seen .onward .shape) next))
-        turns Still f = (f .0, quiet-kept (planOf p es bs cs) (lent .ranged) u w next (f .1) (seen .quiet (λ c. set-apart (sym e ∙ c))))
+        turns Still f = (f .0, quiet-kept (planOf p es bs cs) (lent .ranged) u w next (same (f .1)) (seen .quiet (λ c. set-apart (sym e ∙ c))))
 
 -- the rounds so far
 pub record Going (φ : PlanFile) (v₀ v : List ℤ) : Type 0 where

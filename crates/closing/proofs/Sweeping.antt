@@ -22,11 +22,12 @@ use Rattle.plan.proofs.Tables.{atoms-length}
 use Rattle.plan.proofs.Walks.{le-or-lt, mem-at}
 use Rattle.walk.specs.Hopping.{graphOf, Inside, HopTable, Neighbours, Walked, Truth}
 use Rattle.walk.specs.declared.Hops.{Hops}
-use Rattle.closing.specs.Closed.{Onward, Tells, stepOf}
+use Rattle.unit.specs.Onward.{Onward}
+use Rattle.closing.specs.Closed.{Tells, stepOf}
 use Rattle.closing.specs.Atoms.{AtomFits, AtomsReady, givenBy, SaysIn, Gets, Told, Given, SameEdges, HasAtoms, Swept, Looked, ByHops, BySets, ByEdges}
 use Rattle.closing.specs.declared.Step.{Step}
 use Rattle.closing.specs.declared.Step.the-variants.{Clash, Set, Still}
-use Rattle.closing.proofs.Steps.{onward-none, onward-then, onward-fewer, onward-add, fewer-add}
+use Rattle.unit.proofs.Steps.{onward-none, onward-then, onward-fewer, onward-add, fewer-add}
 
 pub given-size : (over : Bool) (A : Atom) → natAbs (givenBy over A) ≡ A .variable
 given-size false A = refl

@@ -15,7 +15,8 @@ use Rattle.plan.specs.Search.{Assigned}
 use Rattle.plan.specs.Tables.{edgesOf, atomsOf}
 use Rattle.walk.specs.Hopping.{graphOf, HopTable, Neighbours}
 use Rattle.walk.specs.declared.Hops.{Hops}
-use Rattle.closing.specs.Closed.{Onward, Tells}
+use Rattle.unit.specs.Onward.{Onward}
+use Rattle.closing.specs.Closed.{Tells}
 use Rattle.closing.specs.declared.Step.{Step}
 use Rattle.closing.specs.declared.Step.the-variants.{Clash, Set, Still}
 

@@ -1,12 +1,11 @@
--- What closing a lent assignment answers, and what each step towards it keeps.
+-- What closing a lent assignment answers, and what each step towards it says.
 -- Assumes nothing.
 use mathlib.Core.Path.{_≡_}
 use mathlib.Core.Bool.{Bool, true, false}
 use mathlib.Core.List.{List}
 use Prim.Native.Nat.{_<_}
 use lib.IntN.{ℤ}
-use Rattle.plan.specs.Meaning.{PlanFile, _⊆_, trueIn}
-use Rattle.plan.specs.Search.{Assigned, opens, Outcome, nothing, found, CloseIs}
+use Rattle.plan.specs.Search.{opens, Outcome, nothing, found}
 use Rattle.closing.specs.declared.Step.{Step}
 use Rattle.closing.specs.declared.Step.the-variants.{Clash, Set, Still}
 
@@ -14,12 +13,6 @@ use Rattle.closing.specs.declared.Step.the-variants.{Clash, Set, Still}
 abbrev pub closedOf : Bool → List ℤ → Outcome
 closedOf true a = nothing
 closedOf false a = found a
-
--- From v to w: nothing is lost, and closing w is closing v.
-pub record Onward (φ : PlanFile) (v w : List ℤ) : Type 0 where
-  pub shape : Assigned (φ .variables) w
-  pub above : trueIn v ⊆ trueIn w
-  pub back : (o : Outcome) → CloseIs φ w o → CloseIs φ v o
 
 -- What a step says of the assignments before and after it, and what it says where it is a clash.
 abbrev pub Tells : Type 0 → List ℤ → List ℤ → Step → Type 0

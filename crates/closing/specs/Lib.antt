@@ -1,4 +1,3 @@
 pub mod Closed
-pub mod Clauses
 pub mod Atoms
 pub mod Rounds

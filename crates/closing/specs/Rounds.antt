@@ -1,41 +1,36 @@
 -- Atoms and clauses in turn.
 -- Assumes nothing.
-use mathlib.Core.Path.{_≡_}
 use mathlib.Core.Bool.{Bool, true, false}
 use mathlib.Core.List.{List}
 use Prim.Native.Nat.{ℕ, _<_}
-use lib.ListN.{length, getD}
-use lib.IntN.{ℤ, pos}
+use lib.ListN.{length}
+use lib.IntN.{ℤ}
 use lib.Dec.{T}
 use Rattle.plan.specs.Meaning.{PlanFile, trueIn}
 use Rattle.plan.specs.Closing.{Clashes}
 use Rattle.plan.specs.Search.{Assigned, opens}
 use Rattle.plan.specs.Tables.{edgesOf, clausesOf}
-use Rattle.closing.specs.Closed.{Onward}
-use Rattle.closing.specs.Clauses.{HasClauses, ClauseClash, AllQuiet}
+use Rattle.unit.specs.Onward.{Onward}
+use Rattle.unit.specs.Clauses.{HasClauses, ClauseClash, AllQuiet}
 use Rattle.closing.specs.Atoms.{SameEdges, AtomsQuiet}
 use Rattle.closing.specs.declared.Step.{Step}
 use Rattle.closing.specs.declared.Step.the-variants.{Clash, Set, Still}
-
--- A longer list begins with a.
-abbrev pub BeginsWith : List ℤ → List ℤ → Type 0
-BeginsWith r a = (i : ℕ) → i < length a → getD r i (pos 0) ≡ getD a i (pos 0)
 
 -- The edges' variables are as they were, where the answer is true.
 abbrev pub Unchanged : List ℕ → List ℤ → List ℤ → Bool → Type 0
 Unchanged es v w true = SameEdges (edgesOf es) v w
 Unchanged es v w false = T true
 
--- Passes over the clauses behind a look at the atoms: 'Still' where no edge's variable changed.
-abbrev pub Passes : List ℕ → List ℤ → List ℤ → List ℤ → Step → Type 0
-Passes es cs v w Clash = ClauseClash cs v
-Passes es cs v w Set = AllQuiet (trueIn w) (clausesOf cs)
-Passes es cs v w Still = AllQuiet (trueIn w) (clausesOf cs) × SameEdges (edgesOf es) v w
+-- What the clauses give behind a look at the atoms from b to v: 'Still' where no edge's variable changed since b.
+abbrev pub Passes : List ℕ → List ℤ → List ℤ → List ℤ → List ℤ → Step → Type 0
+Passes es cs b v w Clash = ClauseClash cs v
+Passes es cs b v w Set = AllQuiet (trueIn w) (clausesOf cs)
+Passes es cs b v w Still = AllQuiet (trueIn w) (clausesOf cs) × SameEdges (edgesOf es) b w
 
-pub record PassedOn (es : List ℕ) (cs v w : List ℤ) (r : Step) : Type 0 where
+pub record PassedOn (es : List ℕ) (cs b v w : List ℤ) (r : Step) : Type 0 where
   pub shape : Assigned (length v) w
   pub onward : (φ : PlanFile) → HasClauses (length v) cs φ → Onward φ v w
-  pub passes : Passes es cs v w r
+  pub passes : Passes es cs b v w r
 
 -- One round: a clash, or more to do with fewer open variables, or all is quiet.
 abbrev pub Turns : PlanFile → List ℤ → List ℤ → Step → Type 0

@@ -4,18 +4,19 @@ use plan::Edge;
 use plan::Plan;
 use walk::Hops;
 ghost use mathlib.Core.Path.{_≡_};
-ghost use Prim.Native.Nat.{_+_, _-_, _<_, _≤_};
-ghost use lib.IntN.{pos};
-ghost use lib.ListN.{length, getD};
+ghost use Prim.Native.Nat.{_<_, _≤_};
+ghost use lib.ListN.{length};
 ghost use Rattle.plan.specs.Ranged.{LiteralFits};
 ghost use Rattle.plan.specs.Search.{Assigned, CloseIs};
 ghost use Rattle.plan.specs.Meaning.{trueIn, atom};
 ghost use Rattle.plan.specs.Tables.{edgesOf, atomsOf, clausesOf, atomOf, planOf, Lent};
 ghost use Rattle.walk.specs.Hopping.{Inside, Placed};
+ghost use Rattle.index.specs.Places.{Indexable, Indexed};
+ghost use Rattle.unit.specs.Clauses.{Ready, AllQuiet};
+ghost use Rattle.unit.specs.Queue.{BeginsWith, Since, Known};
 ghost use Rattle.closing.specs.Closed.{closedOf, stepOf};
-ghost use Rattle.closing.specs.Clauses.{Ready, Stops, Stop, End, Applied, Passed, Propagated, AllQuiet};
 ghost use Rattle.closing.specs.Atoms.{AtomFits, AtomsReady, givenBy, Gets, Told, Given, Looked, ByHops, BySets, ByEdges, AllLooked, afterSet};
-ghost use Rattle.closing.specs.Rounds.{BeginsWith, Unchanged, PassedOn, Round};
+ghost use Rattle.closing.specs.Rounds.{Unchanged, PassedOn, Round};
 
 // What a look at clauses or atoms does to an assignment.
 pub enum Step {
@@ -34,128 +35,6 @@ fn told(changed: bool) -> Step
     ensures { λ r. ⌜ r ≡ stepOf changed ⌝ }
 {
     if changed { Step::Set } else { Step::Still }
-}
-
-// Whether the look at a clause stops at this number: at its 0, and at a literal that is neither false nor the one passed over.
-fn stops(values: &[i8], literal: i16, passed: i16) -> bool
-    requires { ⌜ Assigned (length (now values)) (now values) ⌝ }
-    requires { ⌜ length (now values) ≤ 512 ⌝ }
-    requires { ⌜ ((literal ≡ pos 0 → ⊥) → LiteralFits (length (now values)) literal) ⌝ }
-    ensures { λ r. ⌜ Stops (now (values .entry)) literal passed r ⌝ }
-{
-    if literal == 0 {
-        return true;
-    }
-    if literal == passed {
-        return false;
-    }
-    plan::value_of(values, literal) != -1
-}
-
-// The first place from `from` on at which the look at a clause stops.
-fn stop_of(clauses: &[i16], from: usize, passed: i16, values: &[i8]) -> usize
-    requires { ⌜ Ready (now clauses) (now values) ⌝ }
-    requires { ⌜ from < length (now clauses) ⌝ }
-    ensures { λ r. ⌜ Stop (now (clauses .entry)) (now (values .entry)) from passed r ⌝ }
-{
-    let mut at = from;
-    loop {
-        let literal = clauses[at];
-        if stops(values, literal, passed) {
-            return at;
-        }
-        at += 1;
-    }
-}
-
-// The place of the 0 that ends a clause.
-fn end_of(clauses: &[i16], from: usize) -> usize
-    requires { ⌜ getD (now clauses) (length (now clauses) - 1) (pos 0) ≡ pos 0 ⌝ }
-    requires { ⌜ from < length (now clauses) ⌝ }
-    ensures { λ r. ⌜ End (now (clauses .entry)) from r ⌝ }
-{
-    let mut at = from;
-    while clauses[at] != 0 {
-        at += 1;
-    }
-    at
-}
-
-// Applies the clause that begins at `at`. A repeated literal is passed over, so it counts once.
-fn apply(clauses: &[i16], at: usize, values: &mut [i8]) -> Look
-    requires { ⌜ Ready (now clauses) (now values) ⌝ }
-    requires { ⌜ at < length (now clauses) ⌝ }
-    ensures { λ r. ⌜ Applied (now (clauses .entry)) at (now (values .entry)) (now (values .exit)) r ⌝ }
-{
-    let first = stop_of(clauses, at, 0, values);
-    let literal = clauses[first];
-    if literal == 0 {
-        return Look {
-            step: Step::Clash,
-            next: first + 1,
-        };
-    }
-    if plan::value_of(values, literal) == 1 {
-        return Look {
-            step: Step::Still,
-            next: end_of(clauses, first) + 1,
-        };
-    }
-    let second = stop_of(clauses, first + 1, literal, values);
-    if clauses[second] != 0 {
-        return Look {
-            step: Step::Still,
-            next: end_of(clauses, second) + 1,
-        };
-    }
-    plan::put(values, literal);
-    Look {
-        step: Step::Set,
-        next: second + 1,
-    }
-}
-
-// One pass over the clauses.
-fn pass(clauses: &[i16], values: &mut [i8]) -> Step
-    requires { ⌜ Ready (now clauses) (now values) ⌝ }
-    ensures { λ r. ⌜ Passed (now (clauses .entry)) (now (values .entry)) (now (values .exit)) r ⌝ }
-{
-    let mut changed = false;
-    let mut at = 0;
-    while at < clauses.len() {
-        let look = apply(clauses, at, values);
-        let step = look.step;
-        match step {
-            Step::Clash => {
-                return Step::Clash;
-            }
-            Step::Set => {
-                changed = true;
-            }
-            Step::Still => {}
-        }
-        at = look.next;
-    }
-    told(changed)
-}
-
-// Passes over the clauses until nothing changes. True: a clash.
-fn propagate(clauses: &[i16], values: &mut [i8]) -> bool
-    requires { ⌜ Ready (now clauses) (now values) ⌝ }
-    ensures { λ r. ⌜ Propagated (now (clauses .entry)) (now (values .entry)) (now (values .exit)) r ⌝ }
-{
-    loop {
-        let step = pass(clauses, values);
-        match step {
-            Step::Clash => {
-                return true;
-            }
-            Step::Still => {
-                return false;
-            }
-            Step::Set => {}
-        }
-    }
 }
 
 // Adds a literal that a rule gives.
@@ -398,49 +277,77 @@ fn same_edges(edges: &[u16], before: &[i8; 512], values: &[i8]) -> bool
     true
 }
 
-// Passes over the clauses behind a look at the atoms. 'Still': no edge changed, and another look would say nothing new.
-fn pass_on(edges: &[u16], clauses: &[i16], values: &mut [i8]) -> Step
+// Adds what the clauses give behind a look at the atoms. 'Still': no edge changed, and another look would say nothing new.
+fn pass_on(
+    edges: &[u16],
+    clauses: &[i16],
+    places: &[u16; 6145],
+    before: &[i8; 512],
+    values: &mut [i8],
+) -> Step
     requires { ⌜ Ready (now clauses) (now values) ⌝ }
+    requires { ⌜ Indexable (now clauses) ⌝ }
+    requires { ⌜ Indexed (now clauses) (now places) ⌝ }
+    requires { ⌜ Since (now clauses) (now before) (now values) ⌝ }
     requires { ⌜ Placed (edgesOf (now edges)) (length (now values)) ⌝ }
-    ensures { λ r. ⌜ PassedOn (now (edges .entry)) (now (clauses .entry)) (now (values .entry)) (now (values .exit)) r ⌝ }
+    ensures { λ r. ⌜ PassedOn (now (edges .entry)) (now (clauses .entry)) (now (before .entry)) (now (values .entry)) (now (values .exit)) r ⌝ }
 {
-    let before = copy_of(values);
-    if propagate(clauses, values) {
+    if unit::propagate_changes(clauses, places, before, values) {
         return Step::Clash;
     }
-    if same_edges(edges, &before, values) {
+    if same_edges(edges, before, values) {
         return Step::Still;
     }
     Step::Set
 }
 
-// Looks at the atoms, and passes over the clauses where that set something. 'Still': nothing more is given.
-fn round(plan: Plan, edges: &[u16], atoms: &[u16], clauses: &[i16], values: &mut [i8]) -> Step
+// Looks at the atoms, and adds what the clauses give where that set something. 'Still': nothing more is given.
+fn round(
+    plan: Plan,
+    edges: &[u16],
+    atoms: &[u16],
+    clauses: &[i16],
+    places: &[u16; 6145],
+    values: &mut [i8],
+) -> Step
     requires { ⌜ Lent plan (now edges) (now atoms) (now clauses) ⌝ }
+    requires { ⌜ Indexed (now clauses) (now places) ⌝ }
     requires { ⌜ Assigned (plan .variables) (now values) ⌝ }
     requires { ⌜ AllQuiet (trueIn (now values)) (clausesOf (now clauses)) ⌝ }
     ensures { λ r. ⌜ Round (planOf plan (now (edges .entry)) (now (atoms .entry)) (now (clauses .entry))) (now (values .entry)) (now (values .exit)) r ⌝ }
 {
+    let before = copy_of(values);
     let step = look_at_atoms(edges, atoms, plan.atoms, values);
     match step {
         Step::Clash => Step::Clash,
-        Step::Set => pass_on(edges, clauses, values),
+        Step::Set => pass_on(edges, clauses, places, &before, values),
         Step::Still => Step::Still,
     }
 }
 
-// Closes a lent assignment. True: a clash.
-pub fn close(plan: Plan, edges: &[u16], atoms: &[u16], clauses: &[i16], values: &mut [i8]) -> bool
+// Closes a lent assignment by the index of the clauses. `tried` is the literal that was added to a closed set, or 0 where nothing is
+// known. True: a clash.
+pub fn close_after(
+    plan: Plan,
+    edges: &[u16],
+    atoms: &[u16],
+    clauses: &[i16],
+    places: &[u16; 6145],
+    tried: i16,
+    values: &mut [i8],
+) -> bool
     requires { ⌜ Lent plan (now edges) (now atoms) (now clauses) ⌝ }
+    requires { ⌜ Indexed (now clauses) (now places) ⌝ }
     requires { ⌜ Assigned (plan .variables) (now values) ⌝ }
+    requires { ⌜ Known (now clauses) (now values) tried ⌝ }
     ensures { λ _. ⌜ Assigned (plan .variables) (now (values .exit)) ⌝ }
     ensures { λ r. ⌜ CloseIs (planOf plan (now (edges .entry)) (now (atoms .entry)) (now (clauses .entry))) (now (values .entry)) (closedOf r (now (values .exit))) ⌝ }
 {
-    if propagate(clauses, values) {
+    if unit::propagate(clauses, places, tried, values) {
         return true;
     }
     loop {
-        let step = round(plan, edges, atoms, clauses, values);
+        let step = round(plan, edges, atoms, clauses, places, values);
         match step {
             Step::Clash => {
                 return true;
@@ -451,4 +358,16 @@ pub fn close(plan: Plan, edges: &[u16], atoms: &[u16], clauses: &[i16], values: 
             Step::Set => {}
         }
     }
+}
+
+// Closes a lent assignment of which nothing is known. True: a clash.
+pub fn close(plan: Plan, edges: &[u16], atoms: &[u16], clauses: &[i16], values: &mut [i8]) -> bool
+    requires { ⌜ Lent plan (now edges) (now atoms) (now clauses) ⌝ }
+    requires { ⌜ Assigned (plan .variables) (now values) ⌝ }
+    ensures { λ _. ⌜ Assigned (plan .variables) (now (values .exit)) ⌝ }
+    ensures { λ r. ⌜ CloseIs (planOf plan (now (edges .entry)) (now (atoms .entry)) (now (clauses .entry))) (now (values .entry)) (closedOf r (now (values .exit))) ⌝ }
+{
+    let index = index::index_of(clauses);
+    let places = index.places;
+    close_after(plan, edges, atoms, clauses, &places, 0, values)
 }

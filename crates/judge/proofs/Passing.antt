@@ -1,7 +1,7 @@
 -- Passing over the elements of a list from the front, as long as each has a property.
 -- Assumes nothing.
 use mathlib.Core.Path.{_≡_, sym, subst}
-use mathlib.Core.Logic.{_⊎_, ⊎-elim}
+use mathlib.Core.Logic.{⊎-elim}
 use mathlib.Core.List.{List, [], _∷_, List·Memᴰ, List·Memᴰ·tail, List·Memᴰ·cases-cons, List·Memᴰ·not-nil}
 use Prim.Native.Nat.{ℕ, zero, suc, _+_}
 use native.Mathlib.Omega.{arith}

@@ -4,14 +4,14 @@ use mathlib.Core.Path.{_≡_, refl, sym, subst, _∙_, ap, ap₂}
 use mathlib.Core.Logic.{_⊎_, inl, inr, _≢_}
 use mathlib.Core.Bool.{Bool, true, false}
 use mathlib.Core.List.{List, [], _∷_}
-use Prim.Native.Nat.{ℕ, zero, suc, _+_, _≤_, _<_}
+use Prim.Native.Nat.{ℕ, zero, suc, _≤_, _<_}
 use native.Mathlib.Decide.{ℕ-discrete}
 use native.Mathlib.Omega.{arith}
 use lib.ListN.{length, getD, set, length-set, List·getD-eq-default}
 use lib.Seq.{ext-getD, getD-set-same, getD-set-other}
 use lib.IntN.{ℤ, pos, negsuc, negℤ, natAbs}
 use lib.Dec.{T, ltb, ltb→lt, nltb→le, not-T}
-use Rattle.plan.specs.Meaning.{on, off, isOn, isOff, value, Literals, _⊆_, trueIn, add}
+use Rattle.plan.specs.Meaning.{isOn, isOff, value, Literals, _⊆_, trueIn, add}
 use Rattle.plan.specs.Search.{Assigned, opens}
 use Rattle.plan.proofs.Bools.{T?}
 

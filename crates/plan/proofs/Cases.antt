@@ -1,24 +1,24 @@
 -- The document's proved cases P1 to P10, as one table: each is a test that antt computes, and one law turns a passed test into what
 -- the definitions say.
 -- Assumes nothing.
-use mathlib.Core.Path.{_≡_, refl, sym, subst, _∙_, ap, ap₂}
+use mathlib.Core.Path.{_≡_, refl, subst, ap, ap₂}
 use mathlib.Core.Logic.{_⊎_, inl, inr, _↔_}
 use mathlib.Core.Bool.{Bool, true, false, not, _&&_, _||_}
-use mathlib.Core.List.{List, [], _∷_, List·Memᴰ, List·Memᴰ·head, List·Memᴰ·tail, List·Memᴰ·cases-cons, List·Memᴰ·not-nil}
-use Prim.Native.Nat.{ℕ, zero, suc, _+_, _≤_, _<_}
+use mathlib.Core.List.{List, [], _∷_, List·Memᴰ}
+use Prim.Native.Nat.{ℕ, zero, suc, _≤_, _<_}
 use native.Mathlib.Omega.{arith}
 use lib.ListN.{length, getD}
-use lib.IntN.{ℤ, pos, negsuc, negℤ, natAbs}
+use lib.IntN.{ℤ, pos, negsuc, natAbs}
 use lib.Dec.{T, T-not, eqb, eqb→eq, eqb-refl, ltb, ltb→lt, leb, leb→le}
-use Rattle.plan.specs.Meaning.{Edge, Atom, PlanFile, edge, IsTrue, on, off, isOn, isOff, value, trueIn, add, under, Full, IsPlan}
+use Rattle.plan.specs.Meaning.{Edge, Atom, PlanFile, edge, IsTrue, isOn, isOff, value, trueIn, add, under, Full}
 use Rattle.plan.specs.Ranged.{maxNodes, maxVariables, maxEdges, maxAtoms, maxBound, maxClauses, maxLiterals, literals, EndsFit, Ranged}
-use Rattle.plan.specs.Search.{Assigned, Closes, CloseIs, Outcome, nothing, found, Tree}
+use Rattle.plan.specs.Search.{Assigned, CloseIs, Outcome, nothing, found, Tree}
 use Rattle.plan.specs.Judging.{Verdict, plan, no-true, wrong, Judged}
 use Rattle.plan.specs.Reason.{Reason, holds, fails, neither, ReasonIs}
-use Rattle.plan.proofs.Bools.{allOf, anyOf, and-left, and-right, or-cases, all-each}
+use Rattle.plan.proofs.Bools.{allOf, and-left, and-right, or-cases, all-each}
 use Rattle.plan.proofs.Levels.{next, reached, isTrueAt?, isTrue?, true-iff}
 use Rattle.plan.proofs.Add.{on-one, off-one}
-use Rattle.plan.proofs.Compute.{eqℤ, close, Counted, search}
+use Rattle.plan.proofs.Compute.{eqℤ, close, search}
 use Rattle.plan.proofs.Exists.{eqℤ→eq, closing-is, searching-is}
 use Rattle.plan.proofs.Judging.{judge, judge-is}
 use Rattle.plan.proofs.Explain.{reason, reason-is}

@@ -1,15 +1,15 @@
 -- What closing means for plans: it is one set, a plan keeps it, and a full closing is a plan.
 -- Assumes nothing.
-use mathlib.Core.Path.{_≡_, refl, sym, subst, _∙_, ap}
-use mathlib.Core.Logic.{_⊎_, inl, inr, _↔_, _≢_}
-use mathlib.Core.Bool.{Bool, true, false, not, _||_}
-use mathlib.Core.List.{List, [], _∷_, List·Memᴰ}
-use Prim.Native.Nat.{ℕ, zero, suc, _+_, _≤_, _<_}
+use mathlib.Core.Path.{_≡_, subst}
+use mathlib.Core.Logic.{_⊎_, inl, inr, _↔_}
+use mathlib.Core.Bool.{not, _||_}
+use mathlib.Core.List.{List, List·Memᴰ}
+use Prim.Native.Nat.{ℕ, zero, suc, _≤_, _<_}
 use native.Mathlib.Omega.{arith}
-use lib.ListN.{length, getD}
-use lib.IntN.{ℤ, pos, negsuc, negℤ, natAbs, ℤ-discrete, negℤ-negℤ}
+use lib.ListN.{getD}
+use lib.IntN.{ℤ, pos, negsuc, negℤ, natAbs, ℤ-discrete}
 use lib.Dec.{T, T-not, not-T}
-use Rattle.plan.specs.Meaning.{Edge, Atom, PlanFile, IsTrue, on, off, value, isOn, isOff, Literals, _⊆_, trueIn, add, under, over, Full, HasTrue, IsPlan}
+use Rattle.plan.specs.Meaning.{Edge, Atom, PlanFile, IsTrue, on, off, value, isOn, isOff, Literals, _⊆_, trueIn, add, under, over, Full, IsPlan}
 use Rattle.plan.specs.Ranged.{Ranged}
 use Rattle.plan.specs.Closing.{HoldsIn, FailsIn, Gives, unit, holds, fails, Obeys, Clash, both, all-false, Closing, Closed, Clashes}
 use Rattle.plan.proofs.Bools.{T?, T-same, any-or-none, or-cases, or-left, or-right}

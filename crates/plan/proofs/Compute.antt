@@ -1,15 +1,15 @@
 -- Closing and search as antt computes them. Not cited by any contract: `Exists` shows that they give what `specs` says.
 -- Assumes nothing.
-use mathlib.Core.Bool.{Bool, true, false, not, cond, _&&_, _||_}
+use mathlib.Core.Bool.{Bool, true, false, cond, _||_}
 use mathlib.Core.List.{List, [], _∷_, _++_}
 use mathlib.Core.Option.{Option, none, some}
 use Prim.Native.Nat.{ℕ, zero, suc, _+_}
 use lib.IntN.{ℤ, pos, negsuc, negℤ}
 use lib.Dec.{eqb}
-use Rattle.plan.specs.Meaning.{Edge, Atom, PlanFile, on, off, trueIn, add, under, over}
+use Rattle.plan.specs.Meaning.{Atom, PlanFile, on, off, trueIn, add, under, over}
 use Rattle.plan.proofs.Bools.{allOf, anyOf, each, those}
 use Rattle.plan.proofs.Levels.{isTrue?}
-use Rattle.plan.specs.Search.{Outcome, nothing, found, triedFirst, triedThen}
+use Rattle.plan.specs.Search.{Outcome, nothing, found}
 
 abbrev pub eqℤ : ℤ → ℤ → Bool
 eqℤ (pos m) (pos n) = eqb m n

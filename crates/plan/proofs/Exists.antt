@@ -1,25 +1,25 @@
 -- Every assignment has its closing and its search tree: the computed ones are right.
 -- Assumes nothing.
-use mathlib.Core.Path.{_≡_, refl, sym, subst, _∙_, ap}
+use mathlib.Core.Path.{_≡_, refl, sym, subst, ap}
 use mathlib.Core.Logic.{_⊎_, inl, inr, _≢_}
-use mathlib.Core.Bool.{Bool, true, false, not, cond, _||_}
-use mathlib.Core.List.{List, [], _∷_, _++_, List·Memᴰ, List·Memᴰ·head, List·Memᴰ·tail, List·Memᴰ·cases-cons, List·Memᴰ·not-nil, List·Memᴰ·append-cases, Memᴰ·append-left, Memᴰ·append-right, List·Memᴰ·eq-of-singleton}
+use mathlib.Core.Bool.{Bool, true, false, cond, _||_}
+use mathlib.Core.List.{List, [], _∷_, List·Memᴰ, List·Memᴰ·head, List·Memᴰ·tail, List·Memᴰ·cases-cons, List·Memᴰ·not-nil, List·Memᴰ·append-cases, Memᴰ·append-left, Memᴰ·append-right, List·Memᴰ·eq-of-singleton}
 use mathlib.Core.Option.{Option, none, some}
-use Prim.Native.Nat.{ℕ, zero, suc, _+_, _≤_, _<_}
+use Prim.Native.Nat.{ℕ, zero, suc, _≤_, _<_}
 use native.Mathlib.Omega.{arith}
-use lib.ListN.{length, getD, set}
+use lib.ListN.{length, getD}
 use lib.IntN.{ℤ, pos, negsuc, negℤ, natAbs, ℤ-discrete}
-use lib.Dec.{T, T-not, not-T, eqb, eqb→eq, eqb-refl}
-use Rattle.plan.specs.Meaning.{Edge, Atom, PlanFile, IsTrue, on, off, isOn, isOff, Literals, _⊆_, trueIn, add, under, over, Full, IsPlan}
+use lib.Dec.{T, eqb→eq, eqb-refl}
+use Rattle.plan.specs.Meaning.{Atom, PlanFile, on, off, Literals, _⊆_, trueIn, add, under, over, Full}
 use Rattle.plan.specs.Ranged.{Ranged}
-use Rattle.plan.specs.Closing.{Gives, unit, holds, fails, Obeys, Clash, both, all-false, Closing, Closed, Clashes}
+use Rattle.plan.specs.Closing.{Gives, unit, holds, fails, Obeys, Clash, both, all-false, Clashes}
 use Rattle.plan.specs.Search.{Assigned, opens, Closes, CloseIs, Lowest, Outcome, nothing, found, Tree, clashed, full, first-found, first-nothing}
-use Rattle.plan.proofs.Bools.{allOf, anyOf, each, those, T?, or-cases, or-left, or-right, any-some, some-any, all-each, each-all}
+use Rattle.plan.proofs.Bools.{anyOf, each, those, or-cases, or-left, or-right, any-some, some-any, all-each, each-all}
 use Rattle.plan.proofs.Levels.{isTrue?, true-iff}
 use Rattle.plan.proofs.Closing.{gives-mono, clash-mono, never-both}
-use Rattle.plan.proofs.Add.{ltb?, IsValue, add-below, add-above, add-shape, add-opens, opens-sub}
+use Rattle.plan.proofs.Add.{IsValue, add-below, add-above, add-shape, add-opens, opens-sub}
 use Rattle.plan.proofs.Search.{low-n, not-on, not-off, off-shape, on-shape}
-use Rattle.plan.proofs.Compute.{eqℤ, byClause, byAtom, gives, firstNew, allFalse, meet, closeStep, close, Counted, later, firstOpen, afterOn, afterOff, atOpen, afterClose, search}
+use Rattle.plan.proofs.Compute.{eqℤ, byClause, byAtom, gives, firstNew, allFalse, meet, closeStep, close, Counted, later, firstOpen, afterOff, atOpen, afterClose, search}
 
 -- lists
 pub eqℤ→eq : (m l : ℤ) → T (eqℤ m l) → m ≡ l
@@ -267,7 +267,7 @@ low-view (pos zero ∷ c) = low zero (record { inside = omega arith; isOpen = re
 low-view (pos (suc n) ∷ c) = low-later (pos (suc n)) c (λ e. omega (arith, ap natAbs e)) (low-view c)
 low-view (negsuc n ∷ c) = low-later (negsuc n) c (λ e. omega (arith, ap natAbs e)) (low-view c)
 
-opens-le : (c : List ℤ) → opens c ≤ length c
+pub opens-le : (c : List ℤ) → opens c ≤ length c
 unfolding opens
 opens-le [] = omega arith
 opens-le (pos zero ∷ c) = omega (arith, opens-le c)

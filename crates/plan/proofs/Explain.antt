@@ -1,24 +1,23 @@
 -- Reasons as antt computes them: every atom has one.
 -- Assumes nothing.
-use mathlib.Core.Path.{_≡_, refl, sym, subst, _∙_, ap}
+use mathlib.Core.Path.{_≡_, refl, sym, subst, ap}
 use mathlib.Core.Logic.{_⊎_, inl, inr, _↔_}
-use mathlib.Core.Bool.{Bool, true, false, not, cond, _&&_, _||_}
+use mathlib.Core.Bool.{Bool, true, false, not, cond, _&&_}
 use mathlib.Core.List.{List, [], _∷_, map, List·Memᴰ, List·Memᴰ·head, List·Memᴰ·tail, List·Memᴰ·cases-cons, List·Memᴰ·not-nil, Memᴰ·cast}
 use mathlib.Core.Option.{Option, none, some}
 use Prim.Native.Nat.{ℕ, zero, suc, pred, _+_, _-_, _≤_, _<_}
 use native.Mathlib.Omega.{arith}
 use lib.ListN.{length, getD}
-use lib.IntN.{ℤ, pos, negsuc}
+use lib.IntN.{ℤ}
 use lib.Dec.{T, T-not, not-T, eqb, eqb→eq, eqb-refl, ltb, ltb→lt, lt→ltb}
-use Rattle.plan.specs.Meaning.{Edge, Atom, PlanFile, Graph, edge, Walk, stay, hop, Hops, Reaches, Within, IsTrueAt, IsTrue, on, off, trueIn, under, over}
+use Rattle.plan.specs.Meaning.{Edge, Atom, PlanFile, Graph, edge, Walk, stay, hop, Hops, IsTrueAt, IsTrue, on, off, trueIn, under, over}
 use Rattle.plan.specs.Ranged.{Ranged}
-use Rattle.plan.specs.Closing.{HoldsIn, FailsIn}
 use Rattle.plan.specs.Reason.{Smallest, Nearer, Back, source, step, Rising, end, more, Listed, Across, Reason, holds, fails, neither, Cut, HoldsBy, FailsBy, ReasonIs}
-use Rattle.plan.proofs.Bools.{tab, anyOf, those, T?, and-both, and-left, and-right, any-some, some-any}
-use Rattle.plan.proofs.Walks.{le-or-lt, mem-at, at-mem, leads-by, smallest-below}
-use Rattle.plan.proofs.Levels.{reached, isTrueAt?, isTrue?, sound, keeps, complete, enough, reaches-iff, true-iff}
+use Rattle.plan.proofs.Bools.{tab, anyOf, those, and-both, and-left, and-right, any-some, some-any}
+use Rattle.plan.proofs.Walks.{le-or-lt, mem-at}
+use Rattle.plan.proofs.Levels.{reached, isTrue?, sound, complete, enough, reaches-iff, true-iff}
 use Rattle.plan.proofs.Exists.{those-in, those-out}
-use Rattle.plan.proofs.Reason.{further, nearest, not-not, cut-of}
+use Rattle.plan.proofs.Reason.{further, nearest, cut-of}
 
 -- the numbers above b, k of them
 abbrev pub upFrom : ℕ → ℕ → List ℕ

@@ -1,14 +1,13 @@
 -- Judging has one verdict, and antt computes it.
 -- Assumes nothing.
-use mathlib.Core.Path.{_≡_, refl, sym, subst, _∙_, ap}
+use mathlib.Core.Path.{_≡_, refl, sym, subst, ap}
 use mathlib.Core.Logic.{_⊎_, inl, inr, _↔_}
-use mathlib.Core.Bool.{Bool, true, false, not, cond, _||_, _&&_, Bool·beq}
+use mathlib.Core.Bool.{Bool, true, false, cond, Bool·beq}
 use mathlib.Core.List.{List, [], _∷_, List·Memᴰ, List·Memᴰ·head, List·Memᴰ·tail, List·Memᴰ·cases-cons, List·Memᴰ·not-nil}
-use Prim.Native.Nat.{ℕ, zero, suc, _+_, _≤_, _<_}
-use native.Mathlib.Omega.{arith}
-use lib.IntN.{ℤ, pos, negsuc, negℤ}
+use Prim.Native.Nat.{ℕ, zero, suc}
+use lib.IntN.{ℤ}
 use lib.Dec.{T}
-use Rattle.plan.specs.Meaning.{Edge, Atom, PlanFile, IsTrue, on, trueIn, under, Full, HasTrue, IsRight, IsPlan}
+use Rattle.plan.specs.Meaning.{Atom, PlanFile, on, trueIn, under, Full, HasTrue, IsRight}
 use Rattle.plan.specs.Ranged.{Ranged}
 use Rattle.plan.specs.Judging.{FirstWithout, here, later, Verdict, plan, no-true, wrong, Judged}
 use Rattle.plan.proofs.Bools.{anyOf, any-some, some-any}

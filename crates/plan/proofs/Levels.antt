@@ -4,14 +4,14 @@ use mathlib.Core.Path.{_≡_, refl, sym, subst, _∙_, ap}
 use mathlib.Core.Logic.{_⊎_, inl, inr, _↔_}
 use mathlib.Core.Bool.{Bool, true, false, _&&_, _||_}
 use mathlib.Core.List.{List, [], _∷_, List·Memᴰ}
-use Prim.Native.Nat.{ℕ, zero, suc, _+_, _-_, _≤_, _<_, min}
+use Prim.Native.Nat.{ℕ, zero, suc, _-_, _≤_, _<_, min}
 use native.Mathlib.Decide.{le-ind}
 use native.Mathlib.Omega.{arith}
 use lib.ListN.{length, getD}
-use lib.Dec.{T, eqb, eqb→eq, eqb-refl, leb, leb→le, nleb→lt, not-T}
-use Rattle.plan.specs.Meaning.{Edge, Atom, Graph, edge, Leads, Walk, stay, hop, Hops, Reaches, Within, IsTrueAt, IsTrue}
-use Rattle.plan.proofs.Bools.{tab, anyOf, T?, or-cases, or-left, or-right, and-both, and-left, and-right, any-some, some-any, tab-in, tab-out, tab-length}
-use Rattle.plan.proofs.Walks.{le-or-lt, its-in, leads-by, Joined, Near, hops-of, reaches-walk, within-walk}
+use lib.Dec.{T, eqb, eqb→eq, eqb-refl}
+use Rattle.plan.specs.Meaning.{Edge, Atom, Graph, edge, Leads, Walk, stay, hop, Reaches, Within, IsTrueAt, IsTrue}
+use Rattle.plan.proofs.Bools.{tab, anyOf, or-cases, or-left, or-right, and-both, and-left, and-right, any-some, some-any, tab-in, tab-out, tab-length}
+use Rattle.plan.proofs.Walks.{le-or-lt, its-in, leads-by, Near, reaches-walk, within-walk}
 
 -- one edge further: a node of l, or the end of a good edge that starts in l
 unfoldable pub next : ℕ → List Edge → Graph → List Bool → List Bool

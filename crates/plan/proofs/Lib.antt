@@ -13,5 +13,6 @@ pub mod Explain
 pub mod Tables
 pub mod Values
 pub mod Signs
+pub mod Literals
 pub mod Cases
 pub mod Refusals

@@ -1,22 +1,21 @@
 -- A reason is one clause, and it is true wherever the atom's variable equals its truth.
 -- Assumes nothing.
 use mathlib.Core.Path.{_≡_, refl, sym, subst, subst₂, _∙_, ap, ap₂}
-use mathlib.Core.Logic.{_⊎_, inl, inr, _↔_, _≢_}
+use mathlib.Core.Logic.{_⊎_, inl, inr, _↔_}
 use mathlib.Core.Bool.{Bool, true, false, not}
-use mathlib.Core.List.{List, [], _∷_, map, List·Memᴰ, List·Memᴰ·head, List·Memᴰ·tail, List·Memᴰ·cases-cons, List·Memᴰ·not-nil}
-use Prim.Native.Nat.{ℕ, zero, suc, pred, _+_, _-_, _≤_, _<_}
+use mathlib.Core.List.{List, _∷_, map, List·Memᴰ, List·Memᴰ·head, List·Memᴰ·tail, List·Memᴰ·cases-cons, List·Memᴰ·not-nil}
+use Prim.Native.Nat.{ℕ, zero, suc, pred, _-_, _≤_, _<_}
 use native.Mathlib.Omega.{arith}
-use lib.ListN.{length, getD}
-use lib.IntN.{ℤ, pos, negsuc, negℤ, natAbs}
-use lib.Dec.{T, T-not, not-T}
-use Rattle.plan.specs.Meaning.{Edge, Atom, PlanFile, Graph, edge, Leads, Walk, stay, hop, Hops, Reaches, Within, IsTrueAt, IsTrue, on, off, trueIn, under, over, Full, HasTrue, IsRight}
+use lib.ListN.{getD}
+use lib.IntN.{ℤ}
+use lib.Dec.{T, not-T}
+use Rattle.plan.specs.Meaning.{Edge, Atom, PlanFile, Graph, edge, Walk, stay, hop, Hops, IsTrueAt, IsTrue, on, off, trueIn, under, over, Full, HasTrue, IsRight}
 use Rattle.plan.specs.Ranged.{Ranged}
-use Rattle.plan.specs.Closing.{HoldsIn, FailsIn}
 use Rattle.plan.specs.Reason.{Smallest, Nearer, Back, source, step, Rising, end, more, Listed, Across, Reason, holds, fails, neither, Cut, HoldsBy, FailsBy, ReasonIs}
 use Rattle.plan.proofs.Bools.{T?, any-or-none}
-use Rattle.plan.proofs.Walks.{le-or-lt, mem-at, at-mem, its-in, leads-by, true-mono, Joined, Near, hops-of, reaches-walk, within-walk, hops-unique}
+use Rattle.plan.proofs.Walks.{le-or-lt, mem-at, at-mem, its-in, leads-by, true-mono, Joined, Near, reaches-walk, within-walk, hops-unique}
 use Rattle.plan.proofs.Levels.{reached, sound, keeps, complete, enough}
-use Rattle.plan.proofs.Closing.{on-over, one-of, never-both}
+use Rattle.plan.proofs.Closing.{on-over, one-of}
 
 -- each part is one
 pub smallest-one : {P : ℕ → Type 0} {j k : ℕ} → Smallest P j → Smallest P k → j ≡ k

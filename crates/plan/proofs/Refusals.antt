@@ -1,6 +1,6 @@
 -- The document's number and value name one refusal.
 -- Assumes nothing.
-use mathlib.Core.Path.{_≡_, refl, sym, _∙_, ap, ap₂}
+use mathlib.Core.Path.{_≡_, refl, sym, _∙_, ap₂}
 use Prim.Native.Nat.{ℕ, zero, suc}
 use Rattle.plan.specs.declared.Refusal.{Refusal}
 use Rattle.plan.specs.declared.Refusal.the-variants.{TooLong, Cut, Misplaced, UnknownTag, BadLength, OutOfRange, TooMany, Shared, WrongLength, BadValue, NoSuchAtom, NoRoom}

@@ -2,9 +2,8 @@
 -- Assumes nothing.
 use mathlib.Core.Path.{_≡_, refl, sym, subst, _∙_, ap, ap₂}
 use mathlib.Core.Logic.{_⊎_, inl, inr, _≢_}
-use mathlib.Core.Bool.{Bool, true, false}
-use mathlib.Core.List.{List, [], _∷_}
-use Prim.Native.Nat.{ℕ, zero, suc, _+_, _*_, _-_, _^_, _≤_, _<_}
+use mathlib.Core.List.{List}
+use Prim.Native.Nat.{ℕ, suc, _*_, _-_, _^_, _≤_, _<_}
 use native.Mathlib.Nat.{pow-succ'}
 use native.Mathlib.Omega.{arith}
 use lib.ListN.{length, getD}
@@ -12,9 +11,9 @@ use lib.Seq.{ext-getD}
 use lib.IntN.{ℤ, pos, negsuc, negℤ, natAbs}
 use lib.Dec.{T}
 use lib.Pow.{pow-pos, pow-mono}
-use Rattle.plan.specs.Meaning.{PlanFile, on, off, isOn, isOff, value, Literals, _⊆_, trueIn, add, Full, IsPlan}
+use Rattle.plan.specs.Meaning.{PlanFile, on, off, isOn, isOff, value, _⊆_, trueIn, add, Full, IsPlan}
 use Rattle.plan.specs.Ranged.{Ranged}
-use Rattle.plan.specs.Closing.{Closing, Closed, Clashes}
+use Rattle.plan.specs.Closing.{Closing, Clashes}
 use Rattle.plan.specs.Search.{Assigned, opens, Closes, Lowest, Outcome, nothing, found, Tree, clashed, full, first-found, first-nothing, Before, FirstPlan, Right}
 use Rattle.plan.proofs.Closing.{closing-unique, not-both, plan-above, no-plan, closed-plan, one-of}
 use Rattle.plan.proofs.Add.{ltb?, IsValue, on-one, off-one, same-set, add-below, add-above, add-has, add-shape, add-opens, opens-sub}

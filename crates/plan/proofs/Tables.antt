@@ -2,15 +2,18 @@
 -- Assumes nothing.
 use mathlib.Core.Path.{_≡_, refl, sym, subst, _∙_, ap}
 use mathlib.Core.Logic.{_⊎_, inl, inr, _≢_}
-use mathlib.Core.List.{List, [], _∷_, _++_, List·Memᴰ, List·Memᴰ·head, List·Memᴰ·tail, List·Memᴰ·cases-cons, List·Memᴰ·not-nil}
-use Prim.Native.Nat.{ℕ, zero, suc, _+_, _*_, _≤_, _<_}
+use mathlib.Core.List.{List, [], _∷_, _++_, List·Memᴰ, List·Memᴰ·head, List·Memᴰ·tail}
+use Prim.Native.Nat.{ℕ, zero, suc, _+_, _*_, _-_, _≤_, _<_}
+use native.Mathlib.Decide.{ℕ-discrete}
 use native.Mathlib.Omega.{arith}
-use lib.ListN.{length, getD, length-append}
+use lib.ListN.{length, getD, length-append, List·getD-append}
+use lib.Seq.{getD-append-add}
 use lib.IntN.{ℤ, pos, negsuc}
 use Rattle.plan.specs.Meaning.{Edge, Atom}
 use Rattle.plan.specs.Ranged.{literals}
 use Rattle.plan.specs.Written.{flat}
 use Rattle.plan.specs.Tables.{edgesOf, atomsOf, inFront, clausesOf}
+use Rattle.plan.proofs.Walks.{le-or-lt, mem-at}
 
 pub edges-length : (l : List ℕ) (n : ℕ) → length l ≡ n * 3 → length (edgesOf l) ≡ n
 unfolding edgesOf
@@ -34,6 +37,21 @@ edges-at (f ∷ t ∷ v ∷ r) (suc k) d h =
   where
     on : (j m : ℕ) → m ≡ suc (suc (suc j)) → getD r j 0 ≡ getD (f ∷ t ∷ v ∷ r) m 0
     on j m e = ap (λ z. getD (f ∷ t ∷ v ∷ r) z 0) (sym e)
+
+pub edges-most : (l : List ℕ) → length (edgesOf l) * 3 ≤ length l
+unfolding edgesOf
+edges-most [] = omega arith
+edges-most (f ∷ []) = omega arith
+edges-most (f ∷ t ∷ []) = omega arith
+edges-most (f ∷ t ∷ v ∷ r) = omega (arith, edges-most r)
+
+pub within-listed : (l : List ℕ) (k : ℕ) → k * 3 + 2 < length l → k < length (edgesOf l)
+unfolding edgesOf
+within-listed [] k h = absurd (omega arith)
+within-listed (f ∷ []) k h = absurd (omega arith)
+within-listed (f ∷ t ∷ []) k h = absurd (omega arith)
+within-listed (f ∷ t ∷ v ∷ r) zero h = omega arith
+within-listed (f ∷ t ∷ v ∷ r) (suc k) h = omega (arith, within-listed r k (omega arith))
 
 pub atoms-length : (l : List ℕ) (n : ℕ) → length l ≡ n * 5 → length (atomsOf l) ≡ n
 unfolding atomsOf
@@ -86,3 +104,41 @@ pub flat-length : (Cs : List (List ℤ)) → length (flat Cs) ≡ literals Cs + 
 unfolding flat literals
 flat-length [] = refl
 flat-length (C ∷ Cs) = length-append C (pos 0 ∷ flat Cs) ∙ omega (arith, flat-length Cs)
+
+-- clauses one behind the other, each with its 0
+last-of : (xs ys : List ℤ) → 0 < length ys → getD ys (length ys - 1) (pos 0) ≡ pos 0 → getD (xs ++ ys) (length (xs ++ ys) - 1) (pos 0) ≡ pos 0
+last-of xs ys h e =
+    let p : length (xs ++ ys) - 1 ≡ length xs + (length ys - 1) = omega (arith, length-append xs ys) in
+    ap (λ k. getD (xs ++ ys) k (pos 0)) p ∙ getD-append-add xs ys (length ys - 1) (pos 0) ∙ e
+
+ended-cons : (ys : List ℤ) → getD ys (length ys - 1) (pos 0) ≡ pos 0 → getD (pos 0 ∷ ys) (length (pos 0 ∷ ys) - 1) (pos 0) ≡ pos 0
+ended-cons [] e = refl
+ended-cons (y ∷ ys) e = let p : length (pos 0 ∷ y ∷ ys) - 1 ≡ suc (length (y ∷ ys) - 1) = omega arith in ap (λ k. getD (pos 0 ∷ y ∷ ys) k (pos 0)) p ∙ e
+
+pub flat-ended : (Cs : List (List ℤ)) → getD (flat Cs) (length (flat Cs) - 1) (pos 0) ≡ pos 0
+unfolding flat
+flat-ended [] = refl
+flat-ended (C ∷ Cs) = last-of C (pos 0 ∷ flat Cs) (omega arith) (ended-cons (flat Cs) (flat-ended Cs))
+
+pub flat-numbers : (P : ℤ → Type 0) (Cs : List (List ℤ)) → ((C : List ℤ) → List·Memᴰ C Cs → (l : ℤ) → List·Memᴰ l C → P l)
+    → (k : ℕ) → k < length (flat Cs) → getD (flat Cs) k (pos 0) ≢ pos 0 → P (getD (flat Cs) k (pos 0))
+unfolding flat
+flat-numbers P [] h k i n = absurd (omega arith)
+flat-numbers P (C ∷ Cs) h k i n = go (λ D m. h D (List·Memᴰ·tail m)) (flat-numbers P Cs) (le-or-lt (length C) k)
+  where
+    rest : (j : ℕ) → k ≡ length C + j → getD (C ++ (pos 0 ∷ flat Cs)) k (pos 0) ≡ getD (pos 0 ∷ flat Cs) j (pos 0)
+    rest j e = ap (λ z. getD (C ++ (pos 0 ∷ flat Cs)) z (pos 0)) e ∙ getD-append-add C (pos 0 ∷ flat Cs) j (pos 0)
+
+    go : ((D : List ℤ) → List·Memᴰ D Cs → (l : ℤ) → List·Memᴰ l D → P l)
+        → (((D : List ℤ) → List·Memᴰ D Cs → (l : ℤ) → List·Memᴰ l D → P l) → (j : ℕ) → j < length (flat Cs) → getD (flat Cs) j (pos 0) ≢ pos 0 → P (getD (flat Cs) j (pos 0)))
+        → (length C ≤ k) ⊎ (k < length C) → P (getD (C ++ (pos 0 ∷ flat Cs)) k (pos 0))
+    go h′ r (inr q) =
+        let e : getD (C ++ (pos 0 ∷ flat Cs)) k (pos 0) ≡ getD C k (pos 0) = List·getD-append C (pos 0 ∷ flat Cs) (pos 0) k q in
+        subst P (sym e) (h C (List·Memᴰ·head refl) (getD C k (pos 0)) (mem-at C (pos 0) k q))
+    go h′ r (inl q) = deep (ℕ-discrete k (length C))
+      where
+        deep : Dec (k ≡ length C) → P (getD (C ++ (pos 0 ∷ flat Cs)) k (pos 0))
+        deep (yes e) = absurd (n (rest 0 (omega arith)))
+        deep (no d) =
+            let e = rest (suc (k - length C - 1)) (omega arith) in
+            subst P (sym e) (r h′ (k - length C - 1) (omega (arith, length-append C (pos 0 ∷ flat Cs))) (λ z. n (e ∙ z)))

@@ -5,7 +5,7 @@ use mathlib.Core.List.{List, List·Memᴰ}
 use Prim.Native.Nat.{ℕ}
 use lib.IntN.{ℤ, negℤ}
 use lib.Dec.{T}
-use Rattle.plan.specs.Meaning.{Edge, Atom, PlanFile, IsTrue, on, off, Literals, _⊆_, under, over}
+use Rattle.plan.specs.Meaning.{Atom, PlanFile, IsTrue, on, off, Literals, _⊆_, under, over}
 use Rattle.plan.specs.declared.State.{State}
 use Rattle.plan.specs.declared.State.the-variants.{Holds, Fails, Open}
 

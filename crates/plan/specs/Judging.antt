@@ -1,6 +1,6 @@
 -- Judging a full assignment. Document 01, "Judging and reasons", the first paragraph.
 -- Assumes nothing.
-use mathlib.Core.List.{List, [], _∷_, List·Memᴰ}
+use mathlib.Core.List.{List, _∷_, List·Memᴰ}
 use Prim.Native.Nat.{ℕ, zero, suc}
 use lib.IntN.{ℤ}
 use Rattle.plan.specs.Meaning.{PlanFile, HasTrue, IsRight, IsPlan}

@@ -9,7 +9,7 @@ use lib.IntN.{ℤ}
 use lib.Dec.{T}
 use Rattle.plan.specs.Meaning.{Edge, Atom, PlanFile, Graph, edge, Hops, Reaches, on, off, trueIn, under, over}
 use Rattle.plan.specs.Closing.{HoldsIn, FailsIn, Settled}
-use Rattle.plan.specs.declared.State.the-variants.{Holds, Fails, Open}
+use Rattle.plan.specs.declared.State.the-variants.{Open}
 
 -- The smallest number with the property P.
 pub record Smallest (P : ℕ → Type 0) (k : ℕ) : Type 0 where

@@ -1,7 +1,7 @@
 ghost use mathlib.Core.Path.{_≡_};
-ghost use Prim.Native.Nat.{ℕ, _+_, _*_, _-_, _<_, _≤_};
-ghost use lib.IntN.{ℤ, pos, negsuc, negℤ, natAbs};
-ghost use lib.ListN.{length, getD, replicate};
+ghost use Prim.Native.Nat.{_+_, _*_, _<_, _≤_};
+ghost use lib.IntN.{pos, negsuc, negℤ, natAbs};
+ghost use lib.ListN.{length, replicate};
 ghost use Rattle.plan.specs.Meaning.{add, edge, atom};
 ghost use Rattle.plan.specs.Search.{Assigned};
 ghost use Rattle.plan.specs.Ranged.{LiteralFits};

@@ -1,19 +1,18 @@
 -- Demand 2, as theorems about the statement of the public call `search`: plan, impossible and undecided are exactly right, the plan is
 -- the first one in the document's order, and the count is exact.
 -- Assumes nothing.
-use mathlib.Core.Path.{_≡_, refl, sym, subst, _∙_, ap}
-use mathlib.Core.Logic.{_⊎_, inl, inr, _↔_}
-use mathlib.Core.Bool.{Bool, true, false}
-use mathlib.Core.List.{List, [], _∷_}
+use mathlib.Core.Path.{_≡_, refl, subst, _∙_, ap}
+use mathlib.Core.Logic.{_⊎_}
+use mathlib.Core.Bool.{Bool}
+use mathlib.Core.List.{List}
 use Prim.Native.Nat.{ℕ, zero, suc, _-_, _^_, _≤_, _<_}
 use native.Mathlib.Omega.{arith}
 use lib.IntN.{ℤ, pos, negsuc}
-use lib.Dec.{T, eqb}
+use lib.Dec.{T}
 use lib.ListN.{length, getD, replicate}
 use borrow.Author.Tests.{eq-eqb}
 use Rattle.plan.specs.Meaning.{PlanFile, isOn, isOff, value, trueIn, _⊆_, IsPlan}
-use Rattle.plan.specs.Ranged.{Ranged}
-use Rattle.plan.specs.Search.{opens, Closes, Outcome, nothing, found, Tree, Before, FirstPlan, Right, Answer, decided, undecided, Searched, within, beyond}
+use Rattle.plan.specs.Search.{opens, Closes, Outcome, nothing, found, Tree, Before, FirstPlan, Right, decided, undecided, Searched, within, beyond}
 use Rattle.plan.proofs.Search.{tree-right, count-below, one-search}
 use Rattle.reader.specs.Format.{Reading, accepted, readPlan}
 use Rattle.reader.proofs.Accepts.{read-ranged}

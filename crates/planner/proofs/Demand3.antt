@@ -2,24 +2,21 @@
 -- Assumes nothing.
 use mathlib.Core.Path.{_≡_, refl, sym, subst, _∙_, ap}
 use mathlib.Core.Bool.{Bool, true, false}
-use mathlib.Core.List.{List, _++_}
-use Prim.Native.Nat.{ℕ, _≤_, _<_}
-use native.Mathlib.Omega.{arith}
+use mathlib.Core.List.{List}
+use Prim.Native.Nat.{ℕ}
 use lib.IntN.{ℤ}
 use lib.Dec.{leb}
 use lib.ListN.{length, take, drop}
 use lib.Seq.{take-at}
-use borrow.Author.Tests.{le-leb}
 use Rattle.plan.specs.Meaning.{PlanFile}
 use Rattle.plan.specs.Tables.{clausesOf}
-use Rattle.plan.specs.Written.{flat, written, lastVariable, ExactlyOne}
+use Rattle.plan.specs.Written.{flat, written, ExactlyOne}
 use Rattle.encoding.proofs.Literals.{read-back}
 use Rattle.encoding.proofs.Continued.{exactly-one}
 use Rattle.reader.specs.Format.{Reading, accepted, readPlan}
 use Rattle.reader.proofs.Accepts.{read-ranged}
-use Rattle.planner.specs.declared.WriteAnswer.{WriteAnswer}
-use Rattle.planner.specs.declared.WriteAnswer.the-variants.{Refused, Written}
-use Rattle.planner.specs.Refusing.{Met, refusal, clear, require, afterReading}
+use Rattle.planner.specs.declared.WriteAnswer.the-variants.{Written}
+use Rattle.planner.specs.Refusing.{clear, require, afterReading}
 use Rattle.planner.specs.Write.{writeChecks, writeMet, WrittenOut, WriteCase, WrittenIs}
 
 -- what the call met, where it wrote

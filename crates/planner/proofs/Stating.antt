@@ -10,15 +10,15 @@ use lib.IntN.{ℤ, pos, negsuc}
 use lib.Dec.{eqb, leb}
 use borrow.Author.Tests.{eq-eqb, ne-eqb, le-leb, lt-leb}
 use lib.ListN.{length, getD}
-use Rattle.plan.specs.Meaning.{PlanFile, isOn, isOff, Full}
+use Rattle.plan.specs.Meaning.{PlanFile, Full}
 use Rattle.plan.specs.Search.{Assigned}
 use Rattle.plan.specs.Refusals.{numberOf, valueOf}
 use Rattle.plan.specs.declared.Refusal.{Refusal}
 use Rattle.reader.specs.Format.{Reading, refused, accepted, readPlan}
 use Rattle.reader.specs.Filling.{Answers}
 use Rattle.reader.specs.declared.ReadAnswer.{ReadAnswer}
-use Rattle.reader.specs.declared.ReadAnswer.the-variants.{Accepted, Refused}
-use Rattle.planner.specs.Refusing.{Met, refusal, clear, require, afterReading, requireLength, requireValues, requireAtom, isSet, isValue, firstNot, Names}
+use Rattle.reader.specs.declared.ReadAnswer.the-variants.{Refused}
+use Rattle.planner.specs.Refusing.{Met, refusal, require, afterReading, requireLength, requireValues, requireAtom, isSet, isValue, firstNot, Names}
 
 -- the reader's refusal is what the call meets
 refused-by : (q : Reading) (y : Refusal) (es bs : List ℕ) (cs : List ℤ) → Answers q (Refused y) es bs cs → q ≡ refused (numberOf y) (valueOf y)

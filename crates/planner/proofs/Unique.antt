@@ -1,18 +1,16 @@
 -- No second answer, and no second contents of a lent buffer, fits the statement of a public call.
 -- Assumes nothing.
-use mathlib.Core.Path.{_≡_, refl, sym, subst, _∙_, ap, ap₂}
+use mathlib.Core.Path.{_≡_, refl, sym, subst, _∙_, ap}
 use mathlib.Core.Logic.{_⊎_, inl, inr}
 use mathlib.Core.List.{List, _++_}
-use Prim.Native.Nat.{ℕ, _-_, _≤_, _<_}
+use Prim.Native.Nat.{ℕ, _-_, _<_}
 use native.Mathlib.Omega.{arith}
 use lib.ListN.{length, drop}
 use lib.IntN.{ℤ}
 use Rattle.plan.specs.Meaning.{PlanFile, Atom, atom, trueIn}
 use Rattle.plan.specs.Judging as judging
-use Rattle.plan.specs.Reason.{Reason, holds, fails, neither, ReasonIs}
-use Rattle.plan.specs.Search.{Outcome, nothing, found, decided, undecided, Answer, CloseIs, Searched}
-use Rattle.plan.specs.declared.Refusal.{Refusal}
-use Rattle.plan.proofs.Refusals.{one-refusal}
+use Rattle.plan.specs.Reason.{holds, fails, neither, ReasonIs}
+use Rattle.plan.specs.Search.{found, decided, Answer, Searched}
 use Rattle.plan.proofs.Judging.{judged-unique}
 use Rattle.plan.proofs.Closing.{not-both}
 use Rattle.plan.proofs.Search.{closes-unique}

@@ -6,8 +6,8 @@ use mathlib.Core.List.{List}
 use Prim.Native.Nat.{ℕ, _-_, _≤_, _<_}
 use lib.ListN.{length}
 use lib.IntN.{ℤ}
-use Rattle.plan.specs.Meaning.{PlanFile, Atom, atom}
-use Rattle.plan.specs.Reason.{Reason, holds, fails, neither, ReasonIs}
+use Rattle.plan.specs.Meaning.{PlanFile, atom}
+use Rattle.plan.specs.Reason.{holds, fails, neither, ReasonIs}
 use Rattle.reader.specs.Format.{readPlan}
 use Rattle.planner.specs.declared.ReasonAnswer.{ReasonAnswer}
 use Rattle.planner.specs.declared.ReasonAnswer.the-variants.{Refused, Holds, Fails, Open}

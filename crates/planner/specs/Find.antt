@@ -1,6 +1,5 @@
 -- The statement of the public call `search`: its answer, and the result buffer before and after.
 -- Assumes nothing.
-use mathlib.Core.Path.{_≡_}
 use mathlib.Core.List.{List}
 use Prim.Native.Nat.{ℕ}
 use lib.ListN.{replicate}

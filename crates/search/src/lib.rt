@@ -2,11 +2,15 @@ use plan::Assignment;
 use plan::Plan;
 ghost use mathlib.Core.Path.{_≡_};
 ghost use mathlib.Core.List.{List};
-ghost use Prim.Native.Nat.{_+_, _-_, _<_, _≤_};
+ghost use Prim.Native.Nat.{_≤_};
 ghost use lib.IntN.{ℤ};
 ghost use lib.ListN.{length, take};
+ghost use Rattle.plan.specs.Meaning.{trueIn};
 ghost use Rattle.plan.specs.Search.{Assigned, Closes, CloseIs, Lowest};
-ghost use Rattle.plan.specs.Tables.{planOf, Lent};
+ghost use Rattle.plan.specs.Tables.{clausesOf, planOf, Lent};
+ghost use Rattle.index.specs.Places.{Indexed};
+ghost use Rattle.unit.specs.Clauses.{AllQuiet};
+ghost use Rattle.unit.specs.Queue.{Known};
 ghost use Rattle.closing.specs.Closed.{closedOf};
 ghost use Rattle.search.specs.Report.{Reported, Filled, FirstOpen, Begins, Answers};
 
@@ -29,15 +33,25 @@ pub struct Part {
     pub set: Assignment,
 }
 
-// Closes an assignment.
-fn closed(plan: Plan, edges: &[u16], atoms: &[u16], clauses: &[i16], a: Assignment) -> Part
+// Closes an assignment by the index of the clauses. `tried` is the literal that was added to a closed set, or 0 where nothing is known.
+fn closed(
+    plan: Plan,
+    edges: &[u16],
+    atoms: &[u16],
+    clauses: &[i16],
+    places: &[u16; 6145],
+    a: Assignment,
+    tried: i16,
+) -> Part
     requires { ⌜ Lent plan (now edges) (now atoms) (now clauses) ⌝ }
+    requires { ⌜ Indexed (now clauses) (now places) ⌝ }
     requires { ⌜ Assigned (plan .variables) (take (plan .variables) (a .values)) ⌝ }
+    requires { ⌜ Known (now clauses) (take (plan .variables) (a .values)) tried ⌝ }
     ensures { λ r. ⌜ CloseIs (planOf plan (now (edges .entry)) (now (atoms .entry)) (now (clauses .entry))) (take (plan .variables) (a .values)) (closedOf (r .clash) (take (plan .variables) (r .set .values))) ⌝ }
 {
     let mut values = a.values;
     let n = plan::wide(plan.variables);
-    let clash = closing::close(plan, edges, atoms, clauses, &mut values[..n]);
+    let clash = closing::close_after(plan, edges, atoms, clauses, places, tried, &mut values[..n]);
     let set = Assignment { values: values };
     Part {
         clash: clash,
@@ -77,17 +91,21 @@ fn settle(
     edges: &[u16],
     atoms: &[u16],
     clauses: &[i16],
+    places: &[u16; 6145],
     a: Assignment,
+    tried: i16,
     from: usize,
     budget: u32,
     count: u32,
 ) -> Outcome
     requires { ⌜ Begins plan (now edges) (now atoms) (now clauses) (take (plan .variables) (a .values)) budget count ⌝ }
+    requires { ⌜ Indexed (now clauses) (now places) ⌝ }
+    requires { ⌜ Known (now clauses) (take (plan .variables) (a .values)) tried ⌝ }
     requires { ⌜ from ≤ plan .variables ⌝ }
     requires { ⌜ Filled (take (plan .variables) (a .values)) from ⌝ }
     ensures { λ r. ⌜ Reported (planOf plan (now (edges .entry)) (now (atoms .entry)) (now (clauses .entry))) (take (plan .variables) (a .values)) budget count (r .verdict) (take (plan .variables) (r .plan .values)) (r .count) ⌝ }
 {
-    let part = closed(plan, edges, atoms, clauses, a);
+    let part = closed(plan, edges, atoms, clauses, places, a, tried);
     let set = part.set;
     if part.clash {
         return Outcome {
@@ -104,7 +122,17 @@ fn settle(
             count: count,
         };
     }
-    branch(plan, edges, atoms, clauses, set, place, budget, count)
+    branch(
+        plan,
+        edges,
+        atoms,
+        clauses,
+        places,
+        set,
+        place,
+        budget,
+        count,
+    )
 }
 
 // Tries the variable at `place` off, and on only if off held no plan.
@@ -113,12 +141,15 @@ fn branch(
     edges: &[u16],
     atoms: &[u16],
     clauses: &[i16],
+    places: &[u16; 6145],
     a: Assignment,
     place: usize,
     budget: u32,
     count: u32,
 ) -> Outcome
     requires { ⌜ Begins plan (now edges) (now atoms) (now clauses) (take (plan .variables) (a .values)) budget count ⌝ }
+    requires { ⌜ Indexed (now clauses) (now places) ⌝ }
+    requires { ⌜ AllQuiet (trueIn (take (plan .variables) (a .values))) (clausesOf (now clauses)) ⌝ }
     requires { ⌜ Lowest (take (plan .variables) (a .values)) place ⌝ }
     ensures { λ r. ⌜ ((b : List ℤ) → Closes (planOf plan (now (edges .entry)) (now (atoms .entry)) (now (clauses .entry))) b (take (plan .variables) (a .values)) → Reported (planOf plan (now (edges .entry)) (now (atoms .entry)) (now (clauses .entry))) b budget count (r .verdict) (take (plan .variables) (r .plan .values)) (r .count)) ⌝ }
 {
@@ -136,7 +167,9 @@ fn branch(
         edges,
         atoms,
         clauses,
+        places,
         a.with(off),
+        off,
         place + 1,
         budget,
         count + 1,
@@ -150,7 +183,9 @@ fn branch(
                 edges,
                 atoms,
                 clauses,
+                places,
                 a.with(on),
+                on,
                 place + 1,
                 budget,
                 so_far,
@@ -191,8 +226,10 @@ pub fn search(
     requires { ⌜ length (now result) ≡ plan .variables ⌝ }
     ensures { λ r. ⌜ Answers (planOf plan (now (edges .entry)) (now (atoms .entry)) (now (clauses .entry))) budget (now (result .entry)) (now (result .exit)) r ⌝ }
 {
+    let index = index::index_of(clauses);
+    let places = index.places;
     let start = Assignment::all_open();
-    let outcome = settle(plan, edges, atoms, clauses, start, 0, budget, 0);
+    let outcome = settle(plan, edges, atoms, clauses, &places, start, 0, 0, budget, 0);
     let verdict = outcome.verdict;
     let count = outcome.count;
     match verdict {

@@ -3,8 +3,8 @@
 use mathlib.Core.Path.{_≡_, refl, sym, ap, subst, _∙_}
 use mathlib.Core.Logic.{_⊎_, inl, inr, ⊎-elim}
 use mathlib.Core.Bool.{not}
-use mathlib.Core.List.{List, [], _∷_}
-use Prim.Native.Nat.{ℕ, zero, suc, _+_, _*_, _-_, _^_, _<_, _≤_}
+use mathlib.Core.List.{List}
+use Prim.Native.Nat.{ℕ, zero, suc, _-_, _^_, _<_, _≤_}
 use native.Mathlib.Decide.{ℕ-discrete, decLt}
 use native.Mathlib.Omega.{arith}
 use lib.Bits.{bitOr}
@@ -15,7 +15,6 @@ use lib.Dec.{T, eqb, eqb→eq}
 use mir.Syntax.{w8}
 use mir.Val.{SFits, ofZ}
 use Rattle.plan.specs.Meaning.{Edge, Graph, edge, value, isOn, isOff, trueIn, on, off}
-use Rattle.plan.specs.Tables.{edgesOf}
 use Rattle.plan.proofs.Add.{on-one, off-one}
 use Rattle.plan.proofs.Bools.{T-same, or-cases, or-left, or-right}
 use Rattle.plan.proofs.Signs.{bits-eq}
@@ -49,23 +48,6 @@ is-not-off a zero w e l f = absurd (omega arith)
 is-not-off a (suc i) w e l f =
     let p : w - 1 ≡ i = omega arith in
     ap not (off-bits (getD a (w - 1) (pos 0)) f ∙ ap (λ (k : ℕ). isOff (getD a k (pos 0))) p)
-
--- ---- the flat table
-
-pub edges-most : (l : List ℕ) → length (edgesOf l) * 3 ≤ length l
-unfolding edgesOf
-edges-most [] = omega arith
-edges-most (f ∷ []) = omega arith
-edges-most (f ∷ t ∷ []) = omega arith
-edges-most (f ∷ t ∷ v ∷ r) = omega (arith, edges-most r)
-
-pub within-listed : (l : List ℕ) (k : ℕ) → k * 3 + 2 < length l → k < length (edgesOf l)
-unfolding edgesOf
-within-listed [] k h = absurd (omega arith)
-within-listed (f ∷ []) k h = absurd (omega arith)
-within-listed (f ∷ t ∷ []) k h = absurd (omega arith)
-within-listed (f ∷ t ∷ v ∷ r) zero h = omega arith
-within-listed (f ∷ t ∷ v ∷ r) (suc k) h = omega (arith, within-listed r k (omega arith))
 
 -- ---- one edge more
 

@@ -5,7 +5,7 @@ use mathlib.Core.Logic.{_↔_}
 use mathlib.Core.Bool.{Bool, true, false}
 use mathlib.Core.List.{List, List·Memᴰ}
 use Prim.Native.Nat.{ℕ, zero, suc, _%_, _/_, _<_, _≤_}
-use lib.ListN.{length, getD}
+use lib.ListN.{getD}
 use lib.IntN.{ℤ}
 use lib.Dec.{T, eqb}
 use Rattle.plan.specs.Meaning.{Edge, Atom, PlanFile, Graph, Leads, IsTrue, trueIn, under, over}

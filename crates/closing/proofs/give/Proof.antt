@@ -2,7 +2,7 @@ use mathlib.Core.Path.{_≡_, refl, ap, _∙_}
 use mir.Facts.{toZ-ofZ}
 use Rattle.plan.specs.Meaning.{add}
 use Rattle.plan.specs.Tables.{literalValue}
-use Rattle.closing.proofs.Literals.{bits-true, bits-false, true-bits, false-bits}
+use Rattle.plan.proofs.Literals.{bits-true, bits-false, true-bits, false-bits}
 use borrow.Author.Needs.{needs}
 use Rattle.closing.proofs.give.Statement.{statement}
 use Rattle.closing.proofs.give.Tie as tie

@@ -1,7 +1,7 @@
 use mathlib.Core.Path.{sym, ap, _∙_}
 use Rattle.closing.specs.Atoms.{givenBy}
 use Rattle.plan.specs.Tables.{atomOf}
-use Rattle.closing.proofs.Literals.{on-is, off-fits, off-is}
+use Rattle.plan.proofs.Literals.{on-is, off-fits, off-is}
 use borrow.Author.Needs.{needs}
 use Rattle.closing.proofs.given.Statement.{statement}
 use Rattle.closing.proofs.given.Tie as tie

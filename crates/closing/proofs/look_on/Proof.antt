@@ -2,7 +2,7 @@ use mathlib.Core.Path.{sym, ap, subst}
 use mathlib.Core.List.{List}
 use Prim.Native.Nat.{ℕ, _<_}
 use native.Mathlib.Omega.{arith}
-use Rattle.plan.specs.Meaning.{Atom, atom}
+use Rattle.plan.specs.Meaning.{Atom}
 use Rattle.closing.specs.Atoms.{Given, ByHops, BySets}
 use Rattle.closing.proofs.Sweeping.{looked-none, looked-earlier, looked-known, sets-hops}
 use borrow.Author.Needs.{needs}

@@ -11,7 +11,7 @@ use Rattle.plan.specs.Meaning.{Atom, atom}
 use Rattle.plan.specs.Ranged.{LiteralFits}
 use Rattle.plan.specs.Tables.{atomsOf, atomOf, literalValue}
 use Rattle.closing.specs.Atoms.{AtomFits, Given, givenBy}
-use Rattle.closing.proofs.Literals.{bits-true}
+use Rattle.plan.proofs.Literals.{bits-true}
 use Rattle.closing.proofs.Sweeping.{none-given, one-given, given-fits}
 use Rattle.closing.proofs.next_to_say.Statement.{statement}
 use Rattle.closing.proofs.next_to_say.Tie as tie

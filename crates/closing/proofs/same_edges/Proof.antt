@@ -11,7 +11,7 @@ use Rattle.plan.specs.Tables.{edgesOf}
 use Rattle.plan.proofs.Signs.{bits-same}
 use Rattle.plan.proofs.Values.{value-at}
 use Rattle.plan.proofs.Walks.{mem-at}
-use Rattle.walk.proofs.Filling.{within-listed}
+use Rattle.plan.proofs.Tables.{within-listed}
 use Rattle.closing.proofs.Rounds.{SameUpTo, same-one, same-all}
 use Rattle.closing.proofs.same_edges.Statement.{statement}
 use Rattle.closing.proofs.same_edges.Tie as tie

@@ -1,14 +1,14 @@
 use borrow.Author.Needs.{needs}
-use mathlib.Core.Path.{_≡_, refl, sym, ap, _∙_, subst}
-use mathlib.Core.List.{List, [], _∷_, _++_}
-use Prim.Native.Nat.{ℕ, _-_, _+_, _<_, _≤_}
+use mathlib.Core.Path.{_≡_, refl, sym, ap, _∙_}
+use mathlib.Core.List.{[], _∷_, _++_}
+use Prim.Native.Nat.{_-_, _<_, _≤_}
 use native.Mathlib.Omega.{arith}
 use native.Mathlib.Numerals.{add-one}
-use lib.IntN.{ℤ, pos}
-use lib.ListN.{length, getD, set, take, length-set}
+use lib.IntN.{pos}
+use lib.ListN.{length, getD, take, length-set}
 use lib.Seq.{take-suc, take-suc-set, take-all}
 use mir.Syntax.{w8}
-use mir.Val.{SFits, ofZ, toZ}
+use mir.Val.{SFits}
 use mir.Facts.{toZ-ofZ}
 use Rattle.plan.proofs.copy.Statement.{statement}
 use Rattle.plan.proofs.copy.Tie as tie

@@ -1,11 +1,8 @@
-use borrow.Author.Needs.{needs}
-use mathlib.Core.Path.{_≡_, refl, sym, ap, _∙_, subst}
-use Prim.Native.Nat.{_-_, _<_, _≤_}
+use mathlib.Core.Path.{_≡_, ap, _∙_}
+use Prim.Native.Nat.{_-_, _<_}
 use native.Mathlib.Omega.{arith}
-use lib.IntN.{ℤ, pos, negsuc, natAbs, negℤ}
+use lib.IntN.{pos, natAbs}
 use lib.ListN.{length, getD}
-use mir.Syntax.{w8, w16}
-use mir.Val.{SFits, ofZ, toZ}
 use mir.Facts.{toZ-ofZ}
 use Rattle.plan.proofs.Signs.{minus}
 use Rattle.plan.proofs.Values.{small-ne, value-on, value-off, sign-fits, sign-neg}

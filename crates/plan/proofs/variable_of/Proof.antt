@@ -1,7 +1,6 @@
 use borrow.Author.Needs.{needs}
-use mathlib.Core.Path.{_≡_, ap, _∙_}
+use mathlib.Core.Path.{ap, _∙_}
 use lib.IntN.{natAbs}
-use lib.Signed.{ltZ, nonNeg}
 use mir.Facts.{toZ-ofZ}
 use Rattle.plan.proofs.Signs.{sub-fits, sub-is, cast-fits, neg-fits, natAbs-neg, below-zero, not-below-zero}
 use Rattle.plan.proofs.variable_of.Statement.{statement}

@@ -2,13 +2,13 @@ use borrow.Author.Needs.{needs}
 use mathlib.Core.Path.{_≡_, refl, sym, ap, _∙_, subst}
 use mathlib.Core.Bool.{Bool, true, false}
 use mathlib.Core.List.{List, _++_}
-use Prim.Native.Nat.{ℕ, _≤_}
+use Prim.Native.Nat.{_≤_}
 use native.Mathlib.Omega.{arith}
 use lib.IntN.{ℤ}
-use lib.ListN.{length, take, drop, length-append}
+use lib.ListN.{length, take, length-append}
 use lib.Seq.{take-at, length-take-le}
 use Rattle.plan.specs.Meaning.{PlanFile}
-use Rattle.plan.specs.Search.{Assigned, Outcome, CloseIs}
+use Rattle.plan.specs.Search.{Assigned, CloseIs}
 use Rattle.plan.specs.Tables.{planOf}
 use Rattle.closing.specs.Closed.{closedOf}
 use Rattle.planner.proofs.close_into.Statement.{statement}

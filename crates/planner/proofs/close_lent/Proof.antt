@@ -8,7 +8,7 @@ use Rattle.plan.specs.Tables.{planOf}
 use Rattle.plan.specs.declared.Refusal.the-variants.{WrongLength, BadValue}
 use Rattle.planner.specs.declared.CloseAnswer.{CloseAnswer}
 use Rattle.planner.specs.declared.CloseAnswer.the-variants.{Refused}
-use Rattle.planner.specs.Refusing.{Met, clear, requireValues, requireLength, isValue}
+use Rattle.planner.specs.Refusing.{Met, clear, requireValues, isValue}
 use Rattle.planner.specs.Close.{closeChecks, CloseCase}
 use Rattle.planner.proofs.Stating.{length-fails, length-holds, values-fail, values-hold, names, assigned-of}
 use Rattle.planner.proofs.close_lent.Statement.{statement}

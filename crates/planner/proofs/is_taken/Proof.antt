@@ -1,4 +1,4 @@
-use mathlib.Core.Path.{_≡_, sym, ap, _∙_}
+use mathlib.Core.Path.{sym, ap, _∙_}
 use mir.Syntax.{w8}
 use mir.Facts.{fits-lit}
 use Rattle.plan.proofs.Signs.{bits-eq, bits-ne}

@@ -11,7 +11,7 @@ use Rattle.judge.specs.declared.Verdict as verdict
 use Rattle.plan.specs.declared.Refusal.the-variants.{WrongLength, BadValue}
 use Rattle.planner.specs.declared.JudgeAnswer.{JudgeAnswer}
 use Rattle.planner.specs.declared.JudgeAnswer.the-variants.{Refused}
-use Rattle.planner.specs.Refusing.{Met, clear, requireValues, isSet, firstNot}
+use Rattle.planner.specs.Refusing.{clear, requireValues, isSet}
 use Rattle.planner.specs.Judge.{judgeChecks, JudgeCase}
 use Rattle.planner.proofs.Stating.{length-fails, length-holds, values-fail, values-hold, names, full-of}
 use Rattle.planner.proofs.judge_lent.Statement.{statement}

@@ -2,7 +2,6 @@ use borrow.Author.Needs.{needs}
 use mathlib.Core.Path.{_≡_, refl, sym, _∙_, subst}
 use mathlib.Core.List.{List}
 use lib.IntN.{ℤ}
-use lib.ListN.{length}
 use Rattle.plan.specs.Meaning.{PlanFile}
 use Rattle.plan.specs.Tables.{planOf}
 use Rattle.plan.specs.declared.Refusal.the-variants.{WrongLength}

@@ -4,7 +4,7 @@ use native.Mathlib.Numerals.{add-one}
 use native.Mathlib.Omega.{arith}
 use lib.ListN.{length}
 use Rattle.plan.specs.Tables.{edgesOf, atomOf}
-use Rattle.walk.proofs.Filling.{edges-most}
+use Rattle.plan.proofs.Tables.{edges-most}
 use Rattle.reason.specs.Marks.{MarksCut}
 use Rattle.reason.proofs.Cuts.{cut-start, cut-end}
 use Rattle.reason.proofs.mark_cut.Statement.{statement}

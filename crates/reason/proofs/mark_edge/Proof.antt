@@ -6,7 +6,7 @@ use borrow.Author.Tests.{not-true, not-false}
 use lib.ListN.{length, length-set}
 use Rattle.plan.specs.Tables.{edgesOf, edgeOf, atomOf}
 use Rattle.plan.proofs.Walks.{mem-at}
-use Rattle.walk.proofs.Filling.{within-listed}
+use Rattle.plan.proofs.Tables.{within-listed}
 use Rattle.walk.proofs.Truths.{so, not-so}
 use Rattle.reason.proofs.Cuts.{Crossing, cut-skip, cut-put}
 use borrow.Author.Needs.{needs}

@@ -9,7 +9,7 @@ use Rattle.plan.specs.Reason.{Nearer}
 use Rattle.plan.specs.Tables.{edgesOf, edgeOf}
 use Rattle.plan.proofs.Walks.{mem-at}
 use Rattle.walk.specs.Hopping.{HopTable}
-use Rattle.walk.proofs.Filling.{edges-most, within-listed}
+use Rattle.plan.proofs.Tables.{edges-most, within-listed}
 use Rattle.walk.proofs.Truths.{so, not-so}
 use Rattle.reason.proofs.Paths.{nearer-of, of-nearer, some-nearer}
 use Rattle.reason.proofs.nearer_edge.Statement.{statement}

@@ -9,16 +9,20 @@ use lib.IntN.{ℤ, pos, _-ℤ_}
 use lib.ListN.{length, take}
 use mir.Syntax.{w16}
 use mir.Val.{ofZ, toZ}
+use mir.Facts.{toZ-ofZ}
 use borrow.Author.Needs.{needs}
-use Rattle.plan.specs.Meaning.{PlanFile, on, off, add}
+use Rattle.plan.specs.Meaning.{PlanFile, on, off, add, trueIn}
 use Rattle.plan.specs.Search.{Assigned, opens, Closes, Lowest}
-use Rattle.plan.specs.Tables.{planOf, Lent}
+use Rattle.plan.specs.Tables.{clausesOf, planOf, Lent}
 use Rattle.plan.proofs.Exists.{natAbs-off}
 use Rattle.plan.proofs.Search.{off-shape, on-shape, low-n}
-use Rattle.closing.proofs.Literals.{on-is, off-is, off-fits}
+use Rattle.unit.specs.Clauses.{AllQuiet}
+use Rattle.unit.specs.Queue.{Known}
+use Rattle.plan.proofs.Literals.{on-is, off-is, off-fits}
 use Rattle.search.specs.Report.{Reported, Filled}
 use Rattle.search.specs.declared.Verdict.the-variants.{Impossible}
 use Rattle.search.proofs.Firsts.{take-add, filled-closed, first-lowest, first-full, filled-off, filled-on, fewer-off, fewer-on, fewer-closed}
+use Rattle.search.proofs.Trying.{closed-quiet, known-off, known-on}
 use Rattle.search.proofs.Parts.{closed-clash, closed-set, report-clash, report-plan, report-from, stop-here, off-side, on-side}
 use borrow.Fn.Kinds.{In}
 use borrow.Fn.PlainCycle.{Measures, is, falls, and}
@@ -35,23 +39,23 @@ use Rattle.search.proofs.open_place.Reads as open-place-reads
 use Rattle.search.proofs.+branch+settle.{statement}
 use Rattle.search.proofs.+branch+settle.Tie.{close}
 
-abbrev μ-branch : Measures 3 branch-kinds.ps ℕ
-μ-branch κs a = opens (take (a .0 .variables) (a .1 .1 .1 .1 .0 .values)) + opens (take (a .0 .variables) (a .1 .1 .1 .1 .0 .values))
+abbrev μ-branch : Measures 4 branch-kinds.ps ℕ
+μ-branch κs a = opens (take (a .0 .variables) (a .1 .1 .1 .1 .1 .0 .values)) + opens (take (a .0 .variables) (a .1 .1 .1 .1 .1 .0 .values))
 
-abbrev μ-settle : Measures 3 settle-kinds.ps ℕ
-μ-settle κs a = opens (take (a .0 .variables) (a .1 .1 .1 .1 .0 .values)) + opens (take (a .0 .variables) (a .1 .1 .1 .1 .0 .values)) + 1
+abbrev μ-settle : Measures 4 settle-kinds.ps ℕ
+μ-settle κs a = opens (take (a .0 .variables) (a .1 .1 .1 .1 .1 .0 .values)) + opens (take (a .0 .variables) (a .1 .1 .1 .1 .1 .0 .values)) + 1
 
-abbrev branch-at : ℕ → In 3 branch-kinds.ps
-branch-at t = and 3 branch-kinds.ps (is 3 branch-kinds.ps μ-branch t) branch.Pre
+abbrev branch-at : ℕ → In 4 branch-kinds.ps
+branch-at t = and 4 branch-kinds.ps (is 4 branch-kinds.ps μ-branch t) branch.Pre
 
-abbrev branch-below : ℕ → In 3 branch-kinds.ps
-branch-below t = and 3 branch-kinds.ps (falls 3 branch-kinds.ps _<_ μ-branch t) branch.Pre
+abbrev branch-below : ℕ → In 4 branch-kinds.ps
+branch-below t = and 4 branch-kinds.ps (falls 4 branch-kinds.ps _<_ μ-branch t) branch.Pre
 
-abbrev settle-at : ℕ → In 3 settle-kinds.ps
-settle-at t = and 3 settle-kinds.ps (is 3 settle-kinds.ps μ-settle t) settle.Pre
+abbrev settle-at : ℕ → In 4 settle-kinds.ps
+settle-at t = and 4 settle-kinds.ps (is 4 settle-kinds.ps μ-settle t) settle.Pre
 
-abbrev settle-below : ℕ → In 3 settle-kinds.ps
-settle-below t = and 3 settle-kinds.ps (falls 3 settle-kinds.ps _<_ μ-settle t) settle.Pre
+abbrev settle-below : ℕ → In 4 settle-kinds.ps
+settle-below t = and 4 settle-kinds.ps (falls 4 settle-kinds.ps _<_ μ-settle t) settle.Pre
 
 -- at the beginning of a branching
 module _ (t : ℕ) (c : branch-lts.Start (
@@ -79,7 +83,10 @@ module _ (t : ℕ) (c : branch-lts.Start (
   shape = c .pre .1 .0 .shape
 
   low : Lowest set place
-  low = c .pre .1 .1
+  low = c .pre .1 .1 .1 .1
+
+  quiet : AllQuiet (trueIn set) (clausesOf (c .args .clauses .now))
+  quiet = c .pre .1 .1 .1 .0
 
   inside : suc place ≤ n
   inside = low-n n set place shape low
@@ -92,6 +99,16 @@ module _ (t : ℕ) (c : branch-lts.Start (
   tried-off r e =
       ap (take n) (e ∙ ap (add (c .args .a .values)) (off-is (place + 1) small ∙ ap off (add-one place)))
       ∙ take-add n (c .args .a .values) (off (suc place)) (omega (arith, natAbs-off (suc place), inside))
+
+  off-known : (r : List ℤ) → take n r ≡ add set (off (suc place)) → Known (c .args .clauses .now) (take n r) (toZ w16 (ofZ w16 (pos 0 -ℤ toZ w16 (place + 1))))
+  off-known r e =
+      subst (λ l. Known (c .args .clauses .now) l (toZ w16 (ofZ w16 (pos 0 -ℤ toZ w16 (place + 1))))) (sym e)
+      (subst (λ x. Known (c .args .clauses .now) (add set (off (suc place))) x) (sym (off-is (place + 1) small ∙ ap off (add-one place))) (known-off n (c .args .clauses .now) set place shape low quiet))
+
+  on-known : (r : List ℤ) → take n r ≡ add set (on (suc place)) → Known (c .args .clauses .now) (take n r) (toZ w16 (place + 1))
+  on-known r e =
+      subst (λ l. Known (c .args .clauses .now) l (toZ w16 (place + 1))) (sym e)
+      (subst (λ x. Known (c .args .clauses .now) (add set (on (suc place))) x) (sym (on-is (place + 1) small ∙ ap on (add-one place))) (known-on n (c .args .clauses .now) set place shape low quiet))
 
   tried-on : (r : List ℤ) → r ≡ add (c .args .a .values) (toZ w16 (place + 1)) → take n r ≡ add set (on (suc place))
   tried-on r e =
@@ -204,7 +221,10 @@ branch-settle-requires t c κs =
       omega arith,
       (
         record { lent = lent t d; shape = subst (λ l. Assigned (n t d) l) (sym e) (off-shape (whole t d) (set t d) (place t d) (shape t d) (low t d)); left = omega (arith, d .pre .1 .0 .left, c .before .if1 .left) },
-        (omega (arith, inside t d), subst (λ l. Filled l (place t d + 1)) (sym e) (filled-off (n t d) (set t d) (place t d) (shape t d) (low t d))),
+        (
+          d .pre .1 .1 .0,
+          (off-known t d (c .with .result .values) e, (omega (arith, inside t d), subst (λ l. Filled l (place t d + 1)) (sym e) (filled-off (n t d) (set t d) (place t d) (shape t d) (low t d)))),
+        ),
       ),
     )
 
@@ -250,7 +270,10 @@ branch-settle-requires-2 t c κs =
       omega arith,
       (
         record { lent = lent t d; shape = subst (λ l. Assigned (n t d) l) (sym e) (on-shape (whole t d) (set t d) (place t d) (shape t d) (low t d)); left = left t s .most },
-        (omega (arith, inside t d), subst (λ l. Filled l (place t d + 1)) (sym e) (filled-on (n t d) (set t d) (place t d) (shape t d) (low t d))),
+        (
+          d .pre .1 .1 .0,
+          (on-known t d (c .with2 .result .values) e, (omega (arith, inside t d), subst (λ l. Filled l (place t d + 1)) (sym e) (filled-on (n t d) (set t d) (place t d) (shape t d) (low t d)))),
+        ),
       ),
     )
 
@@ -326,7 +349,7 @@ settle-closed-requires : (t : ℕ) → settle-lts.Need-closed-requires (
   branch-below t,
   branch.Post,
 ) (settle-at t) settle.Post
-settle-closed-requires t c κs = let d = c .before .before in (d .pre .1 .0 .lent, d .pre .1 .0 .shape)
+settle-closed-requires t c κs = let d = c .before .before in (d .pre .1 .0 .lent, (d .pre .1 .1 .0, (d .pre .1 .0 .shape, rw (toZ-ofZ (d .fits .tried)) (d .pre .1 .1 .1 .0))))
 
 settle-returns : (t : ℕ) → settle-lts.Need-returns (
   closed-reads.Asked,
@@ -353,7 +376,7 @@ settle-open-place-requires : (t : ℕ) → settle-lts.Need-open-place-requires (
   branch-below t,
   branch.Post,
 ) (settle-at t) settle.Post
-settle-open-place-requires t c κs = let d = c .before .before .before .before .before in (d .pre .1 .0 .lent .ranged .variables, d .pre .1 .1 .0)
+settle-open-place-requires t c κs = let d = c .before .before .before .before .before in (d .pre .1 .0 .lent .ranged .variables, d .pre .1 .1 .1 .1 .0)
 
 settle-wide-requires : (t : ℕ) → settle-lts.Need-wide-requires (
   closed-reads.Asked,
@@ -394,7 +417,7 @@ module _ (t : ℕ) (c : settle-lts.After-open-place (
   is-set = closes t shut (c .before .if1 .left)
 
   filled : Filled (after t shut) (entry t shut .args .from)
-  filled = filled-closed (file t shut) (given t shut) (after t shut) (entry t shut .args .from) (entry t shut .pre .1 .0 .shape) (entry t shut .pre .1 .1 .0) is-set (entry t shut .pre .1 .1 .1)
+  filled = filled-closed (file t shut) (given t shut) (after t shut) (entry t shut .args .from) (entry t shut .pre .1 .0 .shape) (entry t shut .pre .1 .1 .1 .1 .0) is-set (entry t shut .pre .1 .1 .1 .1 .1)
 
 settle-returns-2 : (t : ℕ) → settle-lts.Need-returns-2 (
   closed-reads.Asked,
@@ -431,7 +454,7 @@ settle-branch-requires t c κs =
     let f = fewer-closed (file t k) (given t k) (after t k) (d .pre .1 .0 .shape) (is-set t o) in
     let h : o .open-place .result < length (after t k) = omega (arith, o .open-place .ensures .inside, is-set t o .shape .long, c .if2 .left, c .before .wide .ensures) in (
       omega arith,
-      (record { lent = d .pre .1 .0 .lent; shape = is-set t o .shape; left = d .pre .1 .0 .left }, first-lowest (after t k) (d .args .from) (o .open-place .result) (filled t o) (o .open-place .ensures) h),
+      (record { lent = d .pre .1 .0 .lent; shape = is-set t o .shape; left = d .pre .1 .0 .left }, (d .pre .1 .1 .0, (closed-quiet (file t k) (given t k) (after t k) (is-set t o), first-lowest (after t k) (d .args .from) (o .open-place .result) (filled t o) (o .open-place .ensures) h))),
     )
 
 settle-returns-3 : (t : ℕ) → settle-lts.Need-returns-3 (

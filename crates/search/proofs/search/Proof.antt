@@ -7,10 +7,14 @@ use lib.ListN.{take, replicate}
 use Rattle.plan.specs.Meaning.{PlanFile}
 use Rattle.plan.specs.Search.{Assigned}
 use Rattle.plan.specs.Tables.{planOf}
+use Rattle.closing.proofs.Lending.{lent-indexable}
 use Rattle.search.proofs.Firsts.{all-open-is, all-open-shape}
 use Rattle.search.proofs.Parts.{whole-plan, whole-impossible, whole-undecided}
 use Rattle.search.proofs.search.Statement.{statement}
 use Rattle.search.proofs.search.Tie as tie
+
+index-of-requires : tie.Need-index-of-requires
+index-of-requires c κs = let b = c .before .before in lent-indexable (b .args .plan) (b .args .edges .now) (b .args .atoms .now) (b .args .clauses .now) (b .pre .0)
 
 all-open-requires : tie.Need-all-open-requires
 all-open-requires c κs = search needs
@@ -18,7 +22,7 @@ all-open-requires c κs = search needs
 -- from all open
 module _ (c : tie.After-all-open) where
   abbrev begin : tie.Start
-  begin = c .before .before .before
+  begin = c .before .before .before .before .before
 
   abbrev n : ℕ
   n = begin .args .plan .variables
@@ -30,10 +34,11 @@ module _ (c : tie.After-all-open) where
   starts = all-open-is n (c .all-open .result .values) (begin .pre .0 .ranged .variables) (c .all-open .ensures)
 
 settle-requires : tie.Need-settle-requires
-settle-requires c κs = (
-  record { lent = begin c .pre .0; shape = subst (λ l. Assigned (n c) l) (sym (starts c)) (all-open-shape (n c)); left = omega arith },
-  (omega arith, λ j h. absurd (omega arith)),
-)
+settle-requires c κs =
+    let d = c .before in (
+      record { lent = begin d .pre .0; shape = subst (λ l. Assigned (n d) l) (sym (starts d)) (all-open-shape (n d)); left = omega arith },
+      (d .before .before .index-of .ensures, ((λ z. absurd (z refl)), (omega arith, λ j h. absurd (omega arith)))),
+    )
 
 enum-told : tie.Need-enum-told
 enum-told c = search needs
@@ -53,7 +58,7 @@ same-length c = search needs
 returns : tie.Need-returns
 returns c =
     let s = c .before .before .before .before .before .before in
-    let d = s .before in
+    let d = s .before .before in
     let e = c .before .write .ensures in
     record {
       searched = whole-plan (whole d) _ (replicate (n d) (pos 0)) (take (n d) (s .settle .result .plan .values)) (begin d .args .budget) (s .settle .result .count) (s .settle .result .verdict) (starts d) (s .settle .ensures)
@@ -64,7 +69,7 @@ returns c =
 returns-2 : tie.Need-returns-2
 returns-2 c =
     let s = c .before .before in
-    let d = s .before in
+    let d = s .before .before in
     record {
       searched = whole-impossible (whole d) _ (replicate (n d) (pos 0)) (take (n d) (s .settle .result .plan .values)) (begin d .args .budget) (s .settle .result .count) (s .settle .result .verdict) (starts d) (s .settle .ensures) (c .enum-told2 .given .1);
       keeps = refl;
@@ -73,7 +78,7 @@ returns-2 c =
 returns-3 : tie.Need-returns-3
 returns-3 c =
     let s = c .before .before in
-    let d = s .before in
+    let d = s .before .before in
     record {
       searched = whole-undecided (whole d) _ (replicate (n d) (pos 0)) (take (n d) (s .settle .result .plan .values)) (begin d .args .budget) (s .settle .result .count) (s .settle .result .verdict) (starts d) (s .settle .ensures) (c .enum-told3 .given .1);
       keeps = refl;
@@ -83,6 +88,7 @@ pub search-spec : {M : Type 1} → statement M
 search-spec =
     tie.close
     (tie.spec
+    index-of-requires
     all-open-requires
     settle-requires
     enum-told

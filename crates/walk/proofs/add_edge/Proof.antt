@@ -8,7 +8,8 @@ use Rattle.plan.specs.Tables.{edgesOf, edgeOf}
 use Rattle.plan.proofs.Walks.{mem-at}
 use Rattle.walk.proofs.Truths.{so, not-so}
 use Rattle.walk.proofs.Sets.{one-shifted}
-use Rattle.walk.proofs.Filling.{within-listed, filled-skip, filled-put}
+use Rattle.plan.proofs.Tables.{within-listed}
+use Rattle.walk.proofs.Filling.{filled-skip, filled-put}
 use borrow.Author.Needs.{needs}
 use Rattle.walk.proofs.add_edge.Statement.{statement}
 use Rattle.walk.proofs.add_edge.Tie as tie

@@ -4,7 +4,8 @@ use native.Mathlib.Omega.{arith}
 use Rattle.plan.specs.Tables.{edgesOf}
 use Rattle.walk.specs.Hopping.{graphOf}
 use Rattle.walk.specs.Front.{UpTo}
-use Rattle.walk.proofs.Filling.{filled-none, filled-all, edges-most}
+use Rattle.plan.proofs.Tables.{edges-most}
+use Rattle.walk.proofs.Filling.{filled-none, filled-all}
 use Rattle.walk.proofs.neighbours.Statement.{statement}
 use Rattle.walk.proofs.neighbours.Tie as tie
 

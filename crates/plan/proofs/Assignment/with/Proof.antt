@@ -1,8 +1,5 @@
-use borrow.Author.Needs.{needs}
-use mathlib.Core.Path.{_≡_, refl, sym, ap, _∙_}
+use mathlib.Core.Path.{_≡_, ap, _∙_}
 use native.Mathlib.Omega.{arith}
-use lib.IntN.{ℤ, pos, negsuc}
-use lib.ListN.{length, getD, set, take, drop}
 use mir.Facts.{toZ-ofZ}
 use lib.IntN.{natAbs}
 use Rattle.plan.proofs.Values.{small-ne, with-on, with-off}

@@ -1,0 +1,71 @@
+-- A quiet clause stays quiet until one of its literals becomes false; and what one literal more makes true.
+-- Assumes nothing.
+use mathlib.Core.Path.{_≡_, refl, sym, subst, _∙_}
+use mathlib.Core.Logic.{_⊎_, inl, inr, _≢_}
+use mathlib.Core.Bool.{Bool, true, false, not, _&&_, _||_}
+use mathlib.Core.List.{List, List·Memᴰ}
+use Prim.Native.Nat.{_≤_}
+use lib.ListN.{length}
+use lib.IntN.{ℤ, negℤ, natAbs, ℤ-discrete}
+use lib.Dec.{T, T-not, not-T}
+use Rattle.plan.specs.Meaning.{Literals, _⊆_, trueIn, add}
+use Rattle.plan.proofs.Bools.{T?, any-or-none, and-both, and-left, and-right, or-cases, or-left, or-right}
+use Rattle.plan.proofs.Closing.{never-both}
+use Rattle.plan.proofs.Add.{add-below}
+use Rattle.unit.specs.Clauses.{OthersFalse, Quiet}
+
+pub quiet-or-false : (v w : List ℤ) → trueIn v ⊆ trueIn w → (C : List ℤ) → Quiet (trueIn v) C
+    → ((m : ℤ) × List·Memᴰ m C × T (trueIn w (negℤ m)) × (T (trueIn v (negℤ m)) → ⊥)) ⊎ Quiet (trueIn w) C
+quiet-or-false v w h C q = go (any-or-none (λ m. trueIn w (negℤ m) && not (trueIn v (negℤ m))) C)
+  where
+    go : ((m : ℤ) × List·Memᴰ m C × T (trueIn w (negℤ m) && not (trueIn v (negℤ m)))) ⊎ ((m : ℤ) → List·Memᴰ m C → T (trueIn w (negℤ m) && not (trueIn v (negℤ m))) → ⊥)
+        → ((m : ℤ) × List·Memᴰ m C × T (trueIn w (negℤ m)) × (T (trueIn v (negℤ m)) → ⊥)) ⊎ Quiet (trueIn w) C
+    go (inl (m, i, t)) = inl (m, i, and-left (trueIn w (negℤ m)) _ t, T-not (trueIn v (negℤ m)) (and-right (trueIn w (negℤ m)) _ t))
+    go (inr n) = inr (record { there = λ l i o. h l (q .there l i (λ m j d. was m j (o m j d))); free = λ f. q .free (λ m i. was m i (f m i)) })
+      where
+        was : (m : ℤ) → List·Memᴰ m C → T (trueIn w (negℤ m)) → T (trueIn v (negℤ m))
+        was m i t = known (T? (trueIn v (negℤ m)))
+          where
+            known : T (trueIn v (negℤ m)) ⊎ (T (trueIn v (negℤ m)) → ⊥) → T (trueIn v (negℤ m))
+            known (inl u) = u
+            known (inr u) = absurd (n m i (and-both (trueIn w (negℤ m)) _ t (not-T (trueIn v (negℤ m)) u)))
+
+-- a clause with a true literal is quiet
+pub quiet-true : (a C : List ℤ) (l : ℤ) → List·Memᴰ l C → T (trueIn a l) → Quiet (trueIn a) C
+quiet-true a C l m t = record { there = λ k i o. go k o (ℤ-discrete l k); free = λ f. never-both a l t (f l m) }
+  where
+    go : (k : ℤ) → OthersFalse (trueIn a) C k → Dec (l ≡ k) → T (trueIn a k)
+    go k o (yes e) = subst (λ x. T (trueIn a x)) e t
+    go k o (no n) = absurd (never-both a l t (o l m n))
+
+-- so is one with two that are not false
+pub quiet-two : (S : Literals) (C : List ℤ) (l k : ℤ) → List·Memᴰ l C → List·Memᴰ k C → (T (S (negℤ l)) → ⊥) → (T (S (negℤ k)) → ⊥) → k ≢ l → Quiet S C
+quiet-two S C l k m i x y n = record { there = λ j h o. absurd (go j o (ℤ-discrete l j)); free = λ f. x (f l m) }
+  where
+    go : (j : ℤ) → OthersFalse S C j → Dec (l ≡ j) → ⊥
+    go j o (yes e) = y (o k i (λ q. n (q ∙ sym e)))
+    go j o (no d) = x (o l m d)
+
+-- one literal more makes that literal true, and no other
+same : {l m : ℤ} → Dec (m ≡ l) → Bool
+same (yes e) = true
+same (no n) = false
+
+same-is : {l m : ℤ} (d : Dec (m ≡ l)) → T (same d) → m ≡ l
+unfolding same
+same-is (yes e) t = e
+same-is (no n) t = absurd t
+
+is-same : {l : ℤ} (d : Dec (l ≡ l)) → T (same d)
+unfolding same
+is-same (yes e) = tt
+is-same (no n) = absurd (n refl)
+
+pub add-only : (v : List ℤ) (l m : ℤ) → natAbs l ≤ length v → T (trueIn (add v l) m) → (T (trueIn v m) → ⊥) → m ≡ l
+add-only v l m k t n =
+    go (or-cases (trueIn v m) (same (ℤ-discrete m l))
+    (add-below v (λ x. trueIn v x || same (ℤ-discrete x l)) l k (λ x u. or-left (trueIn v x) _ u) (or-right (trueIn v l) _ (is-same (ℤ-discrete l l))) m t))
+  where
+    go : T (trueIn v m) ⊎ T (same (ℤ-discrete m l)) → m ≡ l
+    go (inl u) = absurd (n u)
+    go (inr u) = same-is (ℤ-discrete m l) u

@@ -1,0 +1,162 @@
+-- The literals that an assignment has and a former one has not, in the queue.
+-- Assumes nothing.
+use mathlib.Core.Path.{_≡_, refl, sym, subst, _∙_, ap}
+use mathlib.Core.Logic.{_⊎_, inl, inr, _≢_}
+use mathlib.Core.Bool.{true, false}
+use mathlib.Core.List.{List, _∷_, List·Memᴰ}
+use Prim.Native.Nat.{ℕ, zero, suc, _+_, _≤_, _<_}
+use native.Mathlib.Decide.{ℕ-discrete}
+use native.Mathlib.Numerals.{add-one}
+use native.Mathlib.Omega.{arith}
+use lib.ListN.{length, getD, set, drop, length-set, List·getD-eq-default}
+use lib.Seq.{drop-cons, drop-length, getD-set-same, getD-set-other}
+use lib.IntN.{ℤ, pos, negsuc, negℤ, negℤ-negℤ}
+use lib.Signed.{ltZ}
+use lib.Dec.{T}
+use borrow.Author.Tests.{ltb-true}
+use Rattle.plan.specs.Meaning.{on, off, isOn, isOff, value, trueIn}
+use Rattle.plan.specs.Ranged.{LiteralFits}
+use Rattle.plan.specs.Search.{opens}
+use Rattle.plan.proofs.Add.{IsValue, on-one, off-one}
+use Rattle.plan.proofs.Signs.{natAbs-neg, not-below-zero}
+use Rattle.plan.proofs.Walks.{le-or-lt}
+use Rattle.unit.specs.Clauses.{Quiet}
+use Rattle.unit.specs.Queue.{Waits, Pending, None, Above, Since, literalOf, Queued}
+use Rattle.unit.proofs.Calm.{quiet-or-false}
+
+-- the literal of a place and its value, as the code makes it
+pub literal-off : (i : ℕ) (x : ℤ) → ltZ x (pos 0) ≡ true → off (i + 1) ≡ literalOf i x
+literal-off i (pos n) e = let h : n < 0 = ltb-true n 0 e in absurd (omega arith)
+literal-off i (negsuc n) e = refl
+
+pub literal-on : (i : ℕ) (x : ℤ) → ltZ x (pos 0) ≡ false → on (i + 1) ≡ literalOf i x
+literal-on i (pos n) e = refl
+literal-on i (negsuc n) e = absurd (not-below-zero (negsuc n) e)
+
+literal-fits : (n i : ℕ) (x : ℤ) → i < n → LiteralFits n (literalOf i x)
+literal-fits n i (pos k) h = record { low = omega arith; high = omega arith }
+literal-fits n i (negsuc k) h = let e = natAbs-neg (pos (i + 1)) in record { low = omega arith; high = omega arith }
+
+-- one place more is at most one more that is open, and none where it has a value
+opens-more : (x : ℤ) (a : List ℤ) → opens (x ∷ a) ≤ suc (opens a)
+unfolding opens
+opens-more (pos zero) a = omega arith
+opens-more (pos (suc n)) a = omega arith
+opens-more (negsuc n) a = omega arith
+
+opens-valued : (x : ℤ) (a : List ℤ) → x ≢ pos 0 → opens (x ∷ a) ≡ opens a
+unfolding opens
+opens-valued (pos zero) a n = absurd (n refl)
+opens-valued (pos (suc k)) a n = refl
+opens-valued (negsuc k) a n = refl
+
+opens-end : (a : List ℤ) → opens (drop (length a) a) ≡ 0
+unfolding opens
+opens-end a = ap opens (drop-length a)
+
+-- where v differs it has a value
+module _ (b v : List ℤ) (kept : Above b v) (i : ℕ) (h : i < length v) where
+  begins : getD b i (pos 0) ≡ getD (kept .before) i (pos 0)
+  begins = kept .begins i (omega (arith, kept .shape .long))
+
+  was-open : IsValue (getD (kept .before) i (pos 0)) → getD v i (pos 0) ≡ pos 0 → getD (kept .before) i (pos 0) ≡ pos 0
+  unfolding trueIn value
+  was-open (inl q) z = absurd (subst (λ x. T (isOn x)) z (kept .above (pos (suc i)) (rw q tt)))
+  was-open (inr (inl q)) z = absurd (subst (λ x. T (isOff x)) z (kept .above (negsuc i) (rw q tt)))
+  was-open (inr (inr q)) z = q
+
+  changed-valued : getD b i (pos 0) ≢ getD v i (pos 0) → getD v i (pos 0) ≢ pos 0
+  changed-valued n z = n (begins ∙ was-open (kept .shape .each i h) z ∙ sym z)
+
+-- a literal is in the used part of the queue
+abbrev InQueue : List ℤ → ℕ → ℤ → Type 0
+InQueue p end l = (k : ℕ) × (k < end) × (getD p k (pos 0) ≡ l)
+
+-- the changes at the first i places are in the queue
+pub record Queueing (b v p : List ℤ) (end i : ℕ) : Type 0 where
+  pub inside : i ≤ length v
+  pub long : length p ≡ 512
+  pub short : end ≤ i
+  pub room : end + opens v ≤ i + opens (drop i v)
+  pub fits : (k : ℕ) → k < end → LiteralFits (length v) (getD p k (pos 0))
+  pub there : (j : ℕ) → j < i → getD b j (pos 0) ≢ getD v j (pos 0) → InQueue p end (literalOf j (getD v j (pos 0)))
+
+pub queueing-start : (b v p : List ℤ) → length p ≡ 512 → Queueing b v p 0 0
+queueing-start b v p e = record { inside = omega arith; long = e; short = omega arith; room = omega arith; fits = λ k h. absurd (omega arith); there = λ j h. absurd (omega arith) }
+
+module _ (b v p : List ℤ) (end i : ℕ) (r : Queueing b v p end i) (h : i < length v) where
+  rest : opens (drop i v) ≡ opens (getD v i (pos 0) ∷ drop (i + 1) v)
+  rest = ap opens (rw add-one (drop-cons v i (pos 0) h))
+
+  pub queueing-same : getD b i (pos 0) ≡ getD v i (pos 0) → Queueing b v p end (i + 1)
+  queueing-same e =
+      let q = opens-more (getD v i (pos 0)) (drop (i + 1) v) in
+      record { inside = omega arith; long = r .long; short = omega (arith, r .short); room = omega (arith, r .room, rest); fits = r .fits; there = λ j l n. go j l n (ℕ-discrete j i) }
+    where
+      go : (j : ℕ) → j < i + 1 → getD b j (pos 0) ≢ getD v j (pos 0) → Dec (j ≡ i) → InQueue p end (literalOf j (getD v j (pos 0)))
+      go j l n (yes q) = absurd (n (rw q e))
+      go j l n (no d) = r .there j (omega arith) n
+
+  module _ (small : length v ≤ 512) (kept : Above b v) (apart : getD b i (pos 0) ≢ getD v i (pos 0)) where
+    abbrev put : List ℤ
+    put = set p end (literalOf i (getD v i (pos 0)))
+
+    put-here : getD put end (pos 0) ≡ literalOf i (getD v i (pos 0))
+    put-here = getD-set-same p end (literalOf i (getD v i (pos 0))) (pos 0) (omega (arith, r .long, r .short))
+
+    put-before : (k : ℕ) → k < end → getD put k (pos 0) ≡ getD p k (pos 0)
+    put-before k l = getD-set-other p end k (literalOf i (getD v i (pos 0))) (pos 0) (λ e. omega arith)
+
+    pub queueing-put : Queueing b v put (end + 1) (i + 1)
+    queueing-put =
+        let q = opens-valued (getD v i (pos 0)) (drop (i + 1) v) (changed-valued b v kept i h apart) in
+        record {
+          inside = omega arith;
+          long = simp length-set (r .long);
+          short = omega (arith, r .short);
+          room = omega (arith, r .room, rest);
+          fits = λ k l. fit k l (ℕ-discrete k end);
+          there = λ j l n. go j l n (ℕ-discrete j i);
+        }
+      where
+        fit : (k : ℕ) → k < end + 1 → Dec (k ≡ end) → LiteralFits (length v) (getD put k (pos 0))
+        fit k l (yes e) = rw e (rw put-here (literal-fits (length v) i (getD v i (pos 0)) h))
+        fit k l (no d) = let m : k < end = omega arith in rw (put-before k m) (r .fits k m)
+
+        go : (j : ℕ) → j < i + 1 → getD b j (pos 0) ≢ getD v j (pos 0) → Dec (j ≡ i) → InQueue put (end + 1) (literalOf j (getD v j (pos 0)))
+        go j l n (yes e) = (end, omega arith, rw e put-here)
+        go j l n (no d) = let q = r .there j (omega arith) n in (q .0, omega (arith, q .1), put-before (q .0) (q .1) ∙ q .2)
+
+pub queueing-ends : (b v p : List ℤ) (end i : ℕ) → Queueing b v p end i → length v ≤ i → length v ≤ 512 → Queued b v p end
+queueing-ends b v p end i r h small =
+    let e : i ≡ length v = omega (arith, r .inside) in
+    let q : opens (drop i v) ≡ 0 = rw e (opens-end v) in
+    record { long = r .long; room = omega (arith, r .room); fits = r .fits; there = λ j l. r .there j (omega arith) }
+
+-- each clause is quiet still, or a literal that waits made one of its literals false
+module _ (cs b v p : List ℤ) (end : ℕ) (since : Since cs b v) (r : Queued b v p end) where
+  abbrev kept : Above b v
+  kept = since .kept
+
+  changed-at : (i : ℕ) (x : ℤ) → x ≢ pos 0 → getD v i (pos 0) ≡ x → (getD (kept .before) i (pos 0) ≡ x → ⊥) → InQueue p end (literalOf i x)
+  changed-at i x z e n = go (le-or-lt (length v) i)
+    where
+      go : (length v ≤ i) ⊎ (i < length v) → InQueue p end (literalOf i x)
+      go (inl h) = absurd (z (sym e ∙ List·getD-eq-default v (pos 0) h))
+      go (inr h) = subst (λ y. InQueue p end (literalOf i y)) e (r .there i h (λ q. n (sym (begins b v kept i h) ∙ q ∙ e)))
+
+  changed-in : (l : ℤ) → T (trueIn v l) → (T (trueIn (kept .before) l) → ⊥) → InQueue p end l
+  unfolding trueIn value
+  changed-in (pos zero) t n = absurd t
+  changed-in (pos (suc i)) t n = subst (λ k. InQueue p end (on k)) (add-one i) (changed-at i (pos 1) (λ e. subst (λ x. T (isOn x)) e tt) (on-one _ t) (λ e. n (rw e tt)))
+  changed-in (negsuc i) t n = subst (λ k. InQueue p end (off k)) (add-one i) (changed-at i (negsuc 0) (λ e. subst (λ x. T (isOff x)) e tt) (off-one _ t) (λ e. n (rw e tt)))
+
+  pub changes-wait : Pending cs None v p 0 end
+  changes-wait = record { long = r .long; room = r .room; fits = r .fits; calm = λ C m. inr (go C (quiet-or-false (kept .before) v (kept .above) C (since .quiet C m))) }
+    where
+      go : (C : List ℤ) → ((m : ℤ) × List·Memᴰ m C × T (trueIn v (negℤ m)) × (T (trueIn (kept .before) (negℤ m)) → ⊥)) ⊎ Quiet (trueIn v) C
+          → Quiet (trueIn v) C ⊎ Waits p 0 end C
+      go C (inl q) =
+          let w = changed-in (negℤ (q .0)) (q .2) (q .3) in
+          inr (record { place = w .0; from = omega arith; upto = w .1; among = subst (λ l. List·Memᴰ l C) (sym (negℤ-negℤ (q .0)) ∙ ap negℤ (sym (w .2))) (q .1) })
+      go C (inr q) = inl q

@@ -1,0 +1,3 @@
+pub mod Onward
+pub mod Clauses
+pub mod Queue

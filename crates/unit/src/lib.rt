@@ -1,0 +1,289 @@
+ghost use mathlib.Core.Path.{_≡_};
+ghost use Prim.Native.Nat.{_+_, _-_, _<_, _≤_};
+ghost use lib.IntN.{pos};
+ghost use lib.ListN.{length, getD};
+ghost use Rattle.plan.specs.Ranged.{LiteralFits};
+ghost use Rattle.plan.specs.Search.{Assigned, opens};
+ghost use Rattle.index.specs.Places.{Indexable, Indexed};
+ghost use Rattle.unit.specs.Clauses.{Ready, Stops, Stop, End, Begin, SaysAt, Propagated};
+ghost use Rattle.unit.specs.Queue.{Applied, Pending, None, Leads, Known, Above, Since, literalOf, Queued};
+
+// What a clause says of an assignment.
+pub enum Said {
+    Clash,
+    Gives(i16),
+    Nothing,
+}
+
+// What following a clause leads to: a clash, or the queue's new end.
+pub struct Followed {
+    pub clash: bool,
+    pub end: usize,
+}
+
+// Whether the look at a clause stops at this number: at its 0, and at a literal that is neither false nor the one passed over.
+fn stops(values: &[i8], literal: i16, passed: i16) -> bool
+    requires { ⌜ Assigned (length (now values)) (now values) ⌝ }
+    requires { ⌜ length (now values) ≤ 512 ⌝ }
+    requires { ⌜ ((literal ≡ pos 0 → ⊥) → LiteralFits (length (now values)) literal) ⌝ }
+    ensures { λ r. ⌜ Stops (now (values .entry)) literal passed r ⌝ }
+{
+    if literal == 0 {
+        return true;
+    }
+    if literal == passed {
+        return false;
+    }
+    plan::value_of(values, literal) != -1
+}
+
+// The first place from `from` on at which the look at a clause stops.
+fn stop_of(clauses: &[i16], from: usize, passed: i16, values: &[i8]) -> usize
+    requires { ⌜ Ready (now clauses) (now values) ⌝ }
+    requires { ⌜ from < length (now clauses) ⌝ }
+    ensures { λ r. ⌜ Stop (now (clauses .entry)) (now (values .entry)) from passed r ⌝ }
+{
+    let mut at = from;
+    loop {
+        let literal = clauses[at];
+        if stops(values, literal, passed) {
+            return at;
+        }
+        at += 1;
+    }
+}
+
+// The place of the 0 that ends a clause.
+fn end_of(clauses: &[i16], from: usize) -> usize
+    requires { ⌜ getD (now clauses) (length (now clauses) - 1) (pos 0) ≡ pos 0 ⌝ }
+    requires { ⌜ from < length (now clauses) ⌝ }
+    ensures { λ r. ⌜ End (now (clauses .entry)) from r ⌝ }
+{
+    let mut at = from;
+    while clauses[at] != 0 {
+        at += 1;
+    }
+    at
+}
+
+// The place at which the clause around a place begins.
+fn start_of(clauses: &[i16], place: usize) -> usize
+    requires { ⌜ place < length (now clauses) ⌝ }
+    ensures { λ r. ⌜ Begin (now (clauses .entry)) place r ⌝ }
+{
+    let mut at = place;
+    while at > 0 {
+        if clauses[at - 1] == 0 {
+            return at;
+        }
+        at -= 1;
+    }
+    at
+}
+
+// Looks at the clause that begins at `at`. A repeated literal is passed over, so it counts once.
+fn look_at(clauses: &[i16], at: usize, values: &[i8]) -> Said
+    requires { ⌜ Ready (now clauses) (now values) ⌝ }
+    requires { ⌜ at < length (now clauses) ⌝ }
+    ensures { λ r. ⌜ SaysAt (now (clauses .entry)) at (now (values .entry)) r ⌝ }
+{
+    let first = stop_of(clauses, at, 0, values);
+    let literal = clauses[first];
+    if literal == 0 {
+        return Said::Clash;
+    }
+    if plan::value_of(values, literal) == 1 {
+        return Said::Nothing;
+    }
+    let second = stop_of(clauses, first + 1, literal, values);
+    if clauses[second] != 0 {
+        return Said::Nothing;
+    }
+    Said::Gives(literal)
+}
+
+// Looks at the clause that begins at `at`, and adds what it gives to the assignment and to the queue.
+fn apply(
+    clauses: &[i16],
+    at: usize,
+    values: &mut [i8],
+    queue: &mut [i16; 512],
+    end: usize,
+) -> Followed
+    requires { ⌜ Ready (now clauses) (now values) ⌝ }
+    requires { ⌜ at < length (now clauses) ⌝ }
+    requires { ⌜ end + opens (now values) ≤ 512 ⌝ }
+    ensures { λ r. ⌜ Applied (now (clauses .entry)) at (now (values .entry)) (now (values .exit)) (now (queue .entry)) (now (queue .exit)) end r ⌝ }
+{
+    let said = look_at(clauses, at, values);
+    match said {
+        Said::Clash => Followed {
+            clash: true,
+            end: end,
+        },
+        Said::Gives(literal) => {
+            plan::put(values, literal);
+            queue[end] = literal;
+            Followed {
+                clash: false,
+                end: end + 1,
+            }
+        }
+        Said::Nothing => Followed {
+            clash: false,
+            end: end,
+        },
+    }
+}
+
+// Looks at every clause once.
+fn pass(clauses: &[i16], values: &mut [i8], queue: &mut [i16; 512]) -> Followed
+    requires { ⌜ Ready (now clauses) (now values) ⌝ }
+    requires { ⌜ length (now queue) ≡ 512 ⌝ }
+    ensures { λ r. ⌜ Leads (now (clauses .entry)) (now (values .entry)) (now (values .exit)) (now (queue .exit)) 0 r ⌝ }
+{
+    let mut end = 0;
+    let mut at = 0;
+    while at < clauses.len() {
+        let followed = apply(clauses, at, values, queue, end);
+        if followed.clash {
+            return followed;
+        }
+        end = followed.end;
+        at = end_of(clauses, at) + 1;
+    }
+    Followed {
+        clash: false,
+        end: end,
+    }
+}
+
+// Looks at every clause that holds the opposite of the literal at the queue's `head`.
+fn follow(
+    clauses: &[i16],
+    places: &[u16; 6145],
+    head: usize,
+    values: &mut [i8],
+    queue: &mut [i16; 512],
+    tail: usize,
+) -> Followed
+    requires { ⌜ Ready (now clauses) (now values) ⌝ }
+    requires { ⌜ Indexable (now clauses) ⌝ }
+    requires { ⌜ Indexed (now clauses) (now places) ⌝ }
+    requires { ⌜ head < tail ⌝ }
+    requires { ⌜ Pending (now clauses) None (now values) (now queue) head tail ⌝ }
+    ensures { λ r. ⌜ Leads (now (clauses .entry)) (now (values .entry)) (now (values .exit)) (now (queue .exit)) (head + 1) r ⌝ }
+{
+    let mut end = tail;
+    let mut place = index::first_place(places, plan::opposite(queue[head]));
+    while place < clauses.len() {
+        let followed = apply(clauses, start_of(clauses, place), values, queue, end);
+        if followed.clash {
+            return followed;
+        }
+        end = followed.end;
+        place = index::next_place(places, place);
+    }
+    Followed {
+        clash: false,
+        end: end,
+    }
+}
+
+// Follows every literal of the queue. True: a clash.
+fn follow_all(
+    clauses: &[i16],
+    places: &[u16; 6145],
+    values: &mut [i8],
+    queue: &mut [i16; 512],
+    tail: usize,
+) -> bool
+    requires { ⌜ Ready (now clauses) (now values) ⌝ }
+    requires { ⌜ Indexable (now clauses) ⌝ }
+    requires { ⌜ Indexed (now clauses) (now places) ⌝ }
+    requires { ⌜ Pending (now clauses) None (now values) (now queue) 0 tail ⌝ }
+    ensures { λ r. ⌜ Propagated (now (clauses .entry)) (now (values .entry)) (now (values .exit)) r ⌝ }
+{
+    let mut end = tail;
+    let mut head = 0;
+    while head < end {
+        let followed = follow(clauses, places, head, values, queue, end);
+        if followed.clash {
+            return true;
+        }
+        end = followed.end;
+        head += 1;
+    }
+    false
+}
+
+// Adds all that the clauses give. `tried` is the literal that was added to a closed set, or 0 where nothing is known. True: a clash.
+pub fn propagate(clauses: &[i16], places: &[u16; 6145], tried: i16, values: &mut [i8]) -> bool
+    requires { ⌜ Ready (now clauses) (now values) ⌝ }
+    requires { ⌜ Indexable (now clauses) ⌝ }
+    requires { ⌜ Indexed (now clauses) (now places) ⌝ }
+    requires { ⌜ Known (now clauses) (now values) tried ⌝ }
+    ensures { λ r. ⌜ Propagated (now (clauses .entry)) (now (values .entry)) (now (values .exit)) r ⌝ }
+{
+    let mut queue = [0i16; 512];
+    if tried != 0 {
+        queue[0] = tried;
+        return follow_all(clauses, places, values, &mut queue, 1);
+    }
+    let passed = pass(clauses, values, &mut queue);
+    if passed.clash {
+        return true;
+    }
+    follow_all(clauses, places, values, &mut queue, passed.end)
+}
+
+// The literal of the variable at a place that has this value.
+fn literal_of(place: usize, value: i8) -> i16
+    requires { ⌜ place < 512 ⌝ }
+    ensures { λ r. ⌜ r ≡ literalOf place value ⌝ }
+{
+    let variable = (place + 1) as i16;
+    if value < 0 {
+        return -variable;
+    }
+    variable
+}
+
+// Queues the literals that `values` has and `before` has not. Returns the queue's end.
+fn queue_changes(before: &[i8; 512], values: &[i8], queue: &mut [i16; 512]) -> usize
+    requires { ⌜ Assigned (length (now values)) (now values) ⌝ }
+    requires { ⌜ length (now values) ≤ 512 ⌝ }
+    requires { ⌜ Above (now before) (now values) ⌝ }
+    requires { ⌜ length (now queue) ≡ 512 ⌝ }
+    ensures { λ r. ⌜ Queued (now (before .entry)) (now (values .entry)) (now (queue .exit)) r ⌝ }
+{
+    let mut end = 0;
+    let mut i = 0;
+    while i < values.len() {
+        let value = values[i];
+        if value != before[i] {
+            queue[end] = literal_of(i, value);
+            end += 1;
+        }
+        i += 1;
+    }
+    end
+}
+
+// Adds all that the clauses give behind an assignment in which every clause was quiet. True: a clash.
+pub fn propagate_changes(
+    clauses: &[i16],
+    places: &[u16; 6145],
+    before: &[i8; 512],
+    values: &mut [i8],
+) -> bool
+    requires { ⌜ Ready (now clauses) (now values) ⌝ }
+    requires { ⌜ Indexable (now clauses) ⌝ }
+    requires { ⌜ Indexed (now clauses) (now places) ⌝ }
+    requires { ⌜ Since (now clauses) (now before) (now values) ⌝ }
+    ensures { λ r. ⌜ Propagated (now (clauses .entry)) (now (values .entry)) (now (values .exit)) r ⌝ }
+{
+    let mut queue = [0i16; 512];
+    let end = queue_changes(before, values, &mut queue);
+    follow_all(clauses, places, values, &mut queue, end)
+}
