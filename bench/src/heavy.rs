@@ -18,27 +18,27 @@ pub fn files() -> Vec<Heavy> {
         Heavy {
             name: "clauses",
             what: "645 clauses of three literals, no edges",
-            plan: clauses(),
+            plan: clauses(1, 150),
         },
         Heavy {
             name: "ring",
             what: "64 sites, two fibres a span, hop limits",
-            plan: ring(),
+            plan: ring(NODES),
         },
         Heavy {
             name: "hub",
             what: "60 sites homed on two hubs with few ports",
-            plan: hub(),
+            plan: hub(60),
         },
         Heavy {
             name: "metro",
             what: "64 nodes, 256 edges, 61 atoms",
-            plan: metro(),
+            plan: metro(4, 420),
         },
         Heavy {
             name: "chain",
             what: "64 nodes in a row, four fibres a span",
-            plan: chain(),
+            plan: chain(NODES),
         },
     ]
 }
@@ -60,11 +60,11 @@ pub fn write_files(folder: &Path) -> Result<(), String> {
 }
 
 /// Random three-literal clauses, 4.3 for each variable, where plans run out.
-fn clauses() -> PlanFile {
-    let mut random = Random::new(1);
+pub fn clauses(seed: u64, variables: usize) -> PlanFile {
+    let mut random = Random::new(seed);
     let mut plan = PlanFile::with_nodes(1);
-    plan.variables = 150;
-    while plan.clauses.len() < 645 {
+    plan.variables = variables;
+    while plan.clauses.len() < variables * 43 / 10 {
         let mut clause: Vec<i16> = Vec::new();
         while clause.len() < 3 {
             let variable = random.between(1, plan.variables) as i16;
@@ -77,21 +77,21 @@ fn clauses() -> PlanFile {
     plan
 }
 
-/// Each span has two fibres and may light one. Every site stays within 32 hops of
-/// site 0, so only the span across may be dark; but the crews want another one dark.
-fn ring() -> PlanFile {
-    let mut plan = PlanFile::with_nodes(NODES);
-    let spans: Vec<[usize; 2]> = (0..NODES)
-        .map(|k| [(); 2].map(|()| plan.link(k, (k + 1) % NODES)))
+/// Each span has two fibres and may light one. Every site stays within half the sites'
+/// hops of site 0, so only the span across may be dark; but the crews want another one dark.
+pub fn ring(sites: usize) -> PlanFile {
+    let mut plan = PlanFile::with_nodes(sites);
+    let spans: Vec<[usize; 2]> = (0..sites)
+        .map(|k| [(); 2].map(|()| plan.link(k, (k + 1) % sites)))
         .collect();
     for span in &spans {
         plan.not_all(span);
     }
-    for site in (1..NODES).filter(|site| site % 2 == 1) {
-        let near = plan.within(0, site, NODES / 2);
+    for site in (1..sites).filter(|site| site % 2 == 1) {
+        let near = plan.within(0, site, sites / 2);
         plan.must(near);
     }
-    let dark: Vec<usize> = (NODES - 8..NODES)
+    let dark: Vec<usize> = (sites - sites / 8..sites)
         .map(|k| dark_span(&mut plan, &spans[k]))
         .collect();
     plan.one_of(&dark);
@@ -107,8 +107,8 @@ fn dark_span(plan: &mut PlanFile, span: &[usize]) -> usize {
 
 /// Five sites share five ports at each hub, of which three work; in the last
 /// group two, which is one too few.
-fn hub() -> PlanFile {
-    let (hubs, sites, group) = (2, 60, 5);
+pub fn hub(sites: usize) -> PlanFile {
+    let (hubs, group) = (2, 5);
     let mut plan = PlanFile::with_nodes(hubs + sites);
     let trunk = plan.link(0, 1);
     plan.must(trunk);
@@ -131,8 +131,8 @@ fn hub() -> PlanFile {
 
 /// A core ring of four hubs, an access ring of fifteen sites at each, chords up to
 /// 256 edges, hop limits from hub 0, and house rules over the links.
-fn metro() -> PlanFile {
-    let mut random = Random::new(4);
+pub fn metro(seed: u64, rules: usize) -> PlanFile {
+    let mut random = Random::new(seed);
     let (hubs, sites) = (4, 15);
     let mut plan = PlanFile::with_nodes(NODES);
     for hub in 0..hubs {
@@ -158,7 +158,7 @@ fn metro() -> PlanFile {
     let home = plan.reaches(NODES - 1, 0);
     plan.must(home);
     assert_eq!(plan.atoms.len(), ATOMS - 3);
-    for _ in 0..RULES {
+    for _ in 0..rules {
         let rule = [(); 3].map(|()| random.between(1, links) as i16);
         plan.clauses.push(
             rule.map(|x| if random.chance(60) { -x } else { x })
@@ -168,19 +168,17 @@ fn metro() -> PlanFile {
     plan
 }
 
-const RULES: usize = 420;
-
-/// A row of 63 spans with four one-way fibres each, of which one may be lit, and
+/// A row of nodes, four one-way fibres a span, of which one may be lit, and
 /// two house rules' variables for which there are no good values.
-fn chain() -> PlanFile {
-    let mut plan = PlanFile::with_nodes(NODES);
-    let spans: Vec<[usize; 4]> = (1..NODES)
+pub fn chain(nodes: usize) -> PlanFile {
+    let mut plan = PlanFile::with_nodes(nodes);
+    let spans: Vec<[usize; 4]> = (1..nodes)
         .map(|k| [(); 4].map(|()| plan.edge(k - 1, k)))
         .collect();
     for span in &spans {
         plan.at_most(1, span);
     }
-    for node in (3..NODES).step_by(4) {
+    for node in (3..nodes).step_by(4) {
         let near = plan.within(0, node, node);
         plan.must(near);
         let far = plan.within(0, node, node - 1);

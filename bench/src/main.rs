@@ -3,6 +3,7 @@
 mod check;
 mod clauses;
 mod clock;
+mod deep;
 mod engine;
 mod graph;
 mod heavy;
@@ -15,6 +16,7 @@ use std::process::ExitCode;
 const USAGE: &str = "\
 usage: yardstick COMMAND
   files DIR            the five heavy plan files into DIR
+  deep DIR             files whose search ends deep in its tree into DIR, and what linkplan prints
   check [SEED [FILES]] the yardstick's search against the reference's, on drawn and heavy files
   time [BRANCHINGS]    time per branching on the heavy files, and per walk, closing and number
 ";
@@ -28,6 +30,7 @@ fn main() -> ExitCode {
     };
     let done = match words.as_slice() {
         ["files", folder] => heavy::write_files(Path::new(folder)),
+        ["deep", folder] => deep::run(Path::new(folder)),
         ["check"] => check::run(1, 3_000),
         ["check", seed] => number(seed).and_then(|seed| check::run(seed, 3_000)),
         ["check", seed, files] => number(seed).and_then(|seed| check::run(seed, number(files)?)),

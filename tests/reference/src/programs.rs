@@ -3,6 +3,7 @@
 use crate::calls::{self, Answer};
 use crate::file::{self, Refusal};
 use crate::meaning::ON;
+use crate::search::{Outcome, Searched};
 
 pub const BUDGET: u32 = 1_000_000;
 pub const ROOM: usize = 16_384;
@@ -11,20 +12,27 @@ pub fn linkplan(file: &[u8]) -> String {
     // A refused file has no variables, and its refusal comes before the result is looked at.
     let variables = file::read(file).map_or(0, |plan| plan.variables);
     let mut result = vec![0; variables];
-    match calls::search(file, BUDGET, &mut result) {
-        Answer::Plan(branchings) => {
-            format!(
-                "s SATISFIABLE\n{}c branchings {branchings}\n",
-                plan_line(&result)
-            )
-        }
-        Answer::Impossible(branchings) => {
-            format!("s UNSATISFIABLE\nc branchings {branchings}\n")
-        }
-        Answer::Undecided(branchings) => format!("s UNKNOWN\nc branchings {branchings}\n"),
-        Answer::Refused(refusal) => refusal_line(refusal),
+    let (outcome, branchings) = match calls::search(file, BUDGET, &mut result) {
+        Answer::Plan(branchings) => (Outcome::Plan(result), branchings),
+        Answer::Impossible(branchings) => (Outcome::Impossible, branchings),
+        Answer::Undecided(branchings) => (Outcome::Undecided, branchings),
+        Answer::Refused(refusal) => return refusal_line(refusal),
         other => unreachable!("search answered {other:?}"),
-    }
+    };
+    searched_lines(&Searched {
+        outcome,
+        branchings,
+    })
+}
+
+/// The verdict, the plan if there is one, and the count.
+pub fn searched_lines(searched: &Searched) -> String {
+    let verdict = match &searched.outcome {
+        Outcome::Plan(values) => format!("s SATISFIABLE\n{}", plan_line(values)),
+        Outcome::Impossible => "s UNSATISFIABLE\n".into(),
+        Outcome::Undecided => "s UNKNOWN\n".into(),
+    };
+    format!("{verdict}c branchings {}\n", searched.branchings)
 }
 
 /// All variables with sign and a closing 0.
