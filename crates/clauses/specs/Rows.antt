@@ -9,7 +9,7 @@ use lib.ListN.{length}
 use Rattle.plan.specs.Meaning.{Edge, Atom, edge, on, off}
 use Rattle.plan.specs.Written.{each, last}
 use Rattle.plan.specs.Ranged.{maxNodes, maxEdges}
-use Rattle.clauses.specs.declared.Level.{Level}
+use Rattle.clauses.specs.declared.block.Level.{Level}
 
 -- (-a, b)
 unfoldable pub givesRow : ℕ → ℕ → List ℤ
