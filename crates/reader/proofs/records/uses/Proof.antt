@@ -1,0 +1,44 @@
+use mathlib.Core.Path.{_≡_, refl, sym, _∙_}
+use native.Mathlib.Omega.{arith}
+use Prim.Native.Nat.{_-_, _≤_}
+use lib.ListN.{length, drop}
+use Rattle.reader.specs.Filling.{lastIs}
+use Rattle.reader.proofs.Rows.{uses-hit, uses-miss, uses-end}
+use Rattle.reader.proofs.records.uses.Statement.{statement}
+use Rattle.reader.proofs.records.uses.Tie as tie
+
+abbrev Inv-loop : tie.InvT-loop
+Inv-loop table before variable row₀ row = (row ≤ length table) × (lastIs before before (drop row table) variable ≡ lastIs before before table variable)
+
+abbrev μ-loop : tie.MeasureT-loop
+μ-loop table before variable row₀ row = length table - row
+
+returns : tie.Need-returns Inv-loop μ-loop
+returns c =
+    let l = c .before .before .before .loop in
+    sym (sym (l .inv .1) ∙ uses-hit _ _ _ (l .row) (c .before .before .loop-test .taken) (c .if1 .taken))
+
+loop-again : tie.Need-loop-again Inv-loop μ-loop
+loop-again c =
+    let l = c .before .before .before .loop in
+    (omega arith, sym (sym (l .inv .1) ∙ uses-miss _ _ _ (l .row) (c .before .before .loop-test .taken) (c .if1 .left)))
+
+returns-2 : tie.Need-returns-2 Inv-loop μ-loop
+returns-2 c = sym (uses-end _ _ _ (c .before .loop .row) (c .loop-test .left)) ∙ c .before .loop .inv .1
+
+pub uses-spec : {M : Type 1} → statement M
+uses-spec =
+    tie.close
+    (tie.spec
+    Inv-loop
+    μ-loop
+    (λ c. (omega arith, refl))
+    (λ c. omega arith)
+    (λ c. omega arith)
+    (λ c. omega arith)
+    (λ c. omega arith)
+    returns
+    (λ c. omega arith)
+    (λ c. omega arith)
+    loop-again
+    returns-2)

@@ -1,0 +1,150 @@
+// The fields of a file: the numbers, edges and atoms in its bytes, where a record ends, and the ranges of document 01.
+ghost use mathlib.Core.Path.{_≡_};
+ghost use Prim.Native.Nat.{_+_, _*_, _<_, _≤_};
+ghost use lib.ListN.{length};
+ghost use Rattle.plan.specs.Tables.{edgeOf, atomOf};
+ghost use Rattle.reader.specs.Format.{word, twos, after, fits, headOk, endsOk, kindOk, literalOk, literalsOk, literalsIn, edgeIn, atomIn};
+use plan::Atom;
+use plan::Edge;
+use plan::Plan;
+use plan::wide;
+
+// Two bytes, high byte first.
+pub fn word(file: &[u8], i: usize) -> u16
+    requires { ⌜ i + 1 < length (now file) ⌝ }
+    ensures { λ r. ⌜ r ≡ word (now (file .entry)) i ⌝ }
+{
+    (file[i] as u16) * 256 + (file[i + 1] as u16)
+}
+
+// The file has room for the record at an offset: for its 3 head bytes and its value.
+pub fn record_fits(file: &[u8], at: usize) -> bool
+    requires { ⌜ at ≤ length (now file) ⌝ }
+    ensures { λ r. ⌜ r ≡ fits (now (file .entry)) at ⌝ }
+{
+    if file.len() - at < 3 {
+        return false;
+    }
+    if file.len() - at - 3 < wide(word(file, at + 1)) {
+        return false;
+    }
+    true
+}
+
+// The offset behind the record at an offset.
+pub fn behind(file: &[u8], at: usize) -> usize
+    requires { ⌜ after (now file) at ≤ length (now file) ⌝ }
+    ensures { λ r. ⌜ r ≡ after (now (file .entry)) at ⌝ }
+{
+    at + 3 + wide(word(file, at + 1))
+}
+
+// 16 bits as a signed number.
+pub fn literal(x: u16) -> i16
+    ensures { λ r. ⌜ r ≡ twos x ⌝ }
+{
+    if x < 32768 {
+        x as i16
+    } else {
+        -1 - ((65535 - x) as i16)
+    }
+}
+
+// The edge of the record at an offset.
+pub fn edge_in(file: &[u8], at: usize) -> Edge
+    requires { ⌜ at + 9 ≤ length (now file) ⌝ }
+    ensures { λ r. ⌜ edgeOf r ≡ edgeIn (now (file .entry)) at ⌝ }
+{
+    Edge {
+        from: word(file, at + 3),
+        to: word(file, at + 5),
+        variable: word(file, at + 7),
+    }
+}
+
+// The atom of the record at an offset.
+pub fn atom_in(file: &[u8], at: usize) -> Atom
+    requires { ⌜ at + 12 ≤ length (now file) ⌝ }
+    ensures { λ r. ⌜ atomOf r ≡ atomIn (now (file .entry)) at ⌝ }
+{
+    Atom {
+        kind: file[at + 3] as u16,
+        from: word(file, at + 4),
+        to: word(file, at + 6),
+        bound: word(file, at + 8),
+        variable: word(file, at + 10),
+    }
+}
+
+// The ranges of document 01. Each test has its own return: what a test says is lost behind a joined branch.
+pub fn head_ok(nodes: u16, variables: u16) -> bool
+    ensures { λ r. ⌜ r ≡ headOk nodes variables ⌝ }
+{
+    if nodes < 1 {
+        return false;
+    }
+    if nodes > Plan::MAX_NODES {
+        return false;
+    }
+    if variables < 1 {
+        return false;
+    }
+    variables <= Plan::MAX_VARIABLES
+}
+
+pub fn ends_ok(nodes: u16, variables: u16, from: u16, to: u16, variable: u16) -> bool
+    ensures { λ r. ⌜ r ≡ endsOk nodes variables from to variable ⌝ }
+{
+    if from >= nodes {
+        return false;
+    }
+    if to >= nodes {
+        return false;
+    }
+    if variable < 1 {
+        return false;
+    }
+    variable <= variables
+}
+
+pub fn kind_ok(kind: u16, bound: u16) -> bool
+    ensures { λ r. ⌜ r ≡ kindOk kind bound ⌝ }
+{
+    if kind == 1 {
+        return bound == 0;
+    }
+    if kind == 2 {
+        return bound <= Atom::MAX_BOUND;
+    }
+    false
+}
+
+// A literal is tested before it becomes a signed number, so that -32,768 needs no case of its own.
+fn literal_ok(variables: u16, x: u16) -> bool
+    ensures { λ r. ⌜ r ≡ literalOk variables (twos x) ⌝ }
+{
+    if x < 32768 {
+        if x < 1 {
+            return false;
+        }
+        return x <= variables;
+    }
+    65535 - x < variables
+}
+
+// Every one of `count` literals is in range.
+pub fn literals_ok(file: &[u8], from: usize, count: usize, variables: u16) -> bool
+    requires { ⌜ from + count * 2 ≤ length (now file) ⌝ }
+    ensures { λ r. ⌜ r ≡ literalsOk variables (literalsIn (now (file .entry)) from count) ⌝ }
+{
+    let mut at = from;
+    let mut left = count;
+    while left > 0 {
+        if !literal_ok(variables, word(file, at)) {
+            return false;
+        }
+        at += 2;
+        left -= 1;
+    }
+    true
+}
