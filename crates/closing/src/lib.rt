@@ -2,7 +2,6 @@ use plan::Assignment;
 use plan::Atom;
 use plan::Edge;
 use plan::Plan;
-use walk::Hops;
 ghost use mathlib.Core.Path.{_≡_};
 ghost use Prim.Native.Nat.{_<_, _≤_};
 ghost use lib.ListN.{length};
@@ -10,7 +9,7 @@ ghost use Rattle.plan.specs.Ranged.{LiteralFits};
 ghost use Rattle.plan.specs.Search.{Assigned, CloseIs};
 ghost use Rattle.plan.specs.Meaning.{trueIn, atom};
 ghost use Rattle.plan.specs.Tables.{edgesOf, atomsOf, clausesOf, atomOf, planOf, Lent};
-ghost use Rattle.walk.specs.Hopping.{Inside, Placed};
+ghost use Rattle.walk.specs.Hopping.{Inside, Placed, hopsOf};
 ghost use Rattle.index.specs.Places.{Indexable, Indexed};
 ghost use Rattle.unit.specs.Clauses.{Ready, AllQuiet};
 ghost use Rattle.unit.specs.Queue.{BeginsWith, Since, Known};
@@ -68,14 +67,14 @@ fn given(atom: Atom, over: bool) -> i16
 }
 
 // Looks at one atom by the hops from its source.
-fn look_at(atom: Atom, hops: Hops, over: bool, values: &mut [i8]) -> Step
+fn look_at(atom: Atom, reached: u64, counts: &[u8; 64], over: bool, values: &mut [i8]) -> Step
     requires { ⌜ Assigned (length (now values)) (now values) ⌝ }
     requires { ⌜ length (now values) ≤ 512 ⌝ }
     requires { ⌜ AtomFits (length (now values)) (atomOf atom) ⌝ }
     ensures { λ _. ⌜ Assigned (length (now (values .entry))) (now (values .exit)) ⌝ }
-    ensures { λ r. ⌜ Told over (atomOf atom) hops (now (values .entry)) (now (values .exit)) r ⌝ }
+    ensures { λ r. ⌜ Told over (atomOf atom) (hopsOf reached (now (counts .entry))) (now (values .entry)) (now (values .exit)) r ⌝ }
 {
-    if walk::is_true(atom, hops) == over {
+    if walk::is_true(atom, reached, counts) == over {
         return Step::Still;
     }
     give(values, given(atom, over))
@@ -104,7 +103,8 @@ fn look_along(
     count: usize,
     k: usize,
     source: u16,
-    hops: Hops,
+    reached: u64,
+    counts: &[u8; 64],
     over: bool,
     values: &mut [i8],
 ) -> Look
@@ -112,7 +112,7 @@ fn look_along(
     requires { ⌜ k < count ⌝ }
     requires { ⌜ atom (atomsOf (now atoms)) k .from ≡ source ⌝ }
     ensures { λ r. ⌜ (k < r .next) × (r .next ≤ count) ⌝ }
-    ensures { λ r. ⌜ Looked (now (atoms .entry)) over (ByHops over source hops) (now (values .entry)) (now (values .exit)) k (r .next) (r .step) ⌝ }
+    ensures { λ r. ⌜ Looked (now (atoms .entry)) over (ByHops over source (hopsOf reached (now (counts .entry)))) (now (values .entry)) (now (values .exit)) k (r .next) (r .step) ⌝ }
 {
     let mut changed = false;
     let mut at = k;
@@ -124,7 +124,7 @@ fn look_along(
                 next: at,
             };
         }
-        let step = look_at(atom, hops, over, values);
+        let step = look_at(atom, reached, counts, over, values);
         match step {
             Step::Clash => {
                 return Look {
@@ -169,7 +169,17 @@ fn look_on(
     let atom = plan::atom_at(atoms, at);
     let source = atom.from;
     let hops = walk::walk(sets, plan::wide(source));
-    look_along(atoms, count, at, source, hops, over, values)
+    let counts = hops.counts;
+    look_along(
+        atoms,
+        count,
+        at,
+        source,
+        hops.reached,
+        &counts,
+        over,
+        values,
+    )
 }
 
 // Looks at the atoms from `k` on in the graph of these neighbours.

@@ -86,7 +86,8 @@ fn is_right(atom: Atom, hops: Hops, assignment: &[i8]) -> bool
     requires { ⌜ atom .variable ≤ length (now assignment) ⌝ }
     ensures { λ r. ⌜ RightBy (now (assignment .entry)) (atomOf atom) hops r ⌝ }
 {
-    let truth = walk::is_true(atom, hops);
+    let counts = hops.counts;
+    let truth = walk::is_true(atom, hops.reached, &counts);
     let at = plan::wide(atom.variable) - 1;
     let value = assignment[at];
     if value == 1 {

@@ -102,12 +102,6 @@ fn mark_path(
     mark_path(edges, assignment, hops, from, count - 1, marks);
 }
 
-fn widened(count: u8) -> u16
-    ensures { λ r. ⌜ (r ≡ count) × (r < 256) ⌝ }
-{
-    count as u16
-}
-
 // Whether an edge is off and leads across, out of what the over graph reaches: for a bound, out of what it reaches in time.
 fn crosses(assignment: &[i8], atom: Atom, edge: Edge, hops: Hops) -> bool
     requires { ⌜ edge .from < 64 ⌝ }
@@ -132,14 +126,14 @@ fn crosses(assignment: &[i8], atom: Atom, edge: Edge, hops: Hops) -> bool
     if kind != 2 {
         return false;
     }
-    let near = widened(hops.counts[from]);
+    let near = walk::widened(hops.counts[from]);
     if atom.bound <= near {
         return false;
     }
     if !reached {
         return true;
     }
-    near + 1 < widened(hops.counts[to])
+    near + 1 < walk::widened(hops.counts[to])
 }
 
 // Marks the variable of the edge numbered `k`, from 0, where it is off and leads across.

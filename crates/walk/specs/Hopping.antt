@@ -40,6 +40,10 @@ pub record Neighbours (es : List Edge) (g : Graph) (sets : List ℕ) : Type 0 wh
 pub record HopTable (es : List Edge) (g : Graph) (s : ℕ) (h : Hops) : Type 0 where
   pub number : (w k : ℕ) → (T (bit w (h .reached)) × (getD (h .counts) w 0 ≡ k)) ↔ meaning.Hops es g s w k
 
+-- The hops as they are lent on: the set and the counts.
+abbrev pub hopsOf : ℕ → List ℕ → Hops
+hopsOf reached counts = record { reached = reached; counts = counts }
+
 -- What the functions promise, of whatever graph the sets and tables are.
 abbrev pub Walked : List ℕ → ℕ → Hops → Type 0
 Walked sets s r = (es : List Edge) (g : Graph) → Inside es → Neighbours es g sets → HopTable es g s r

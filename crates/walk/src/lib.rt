@@ -5,7 +5,7 @@ ghost use mathlib.Core.Path.{_≡_};
 ghost use Prim.Native.Nat.{suc, _+_, _*_, _<_, _≤_};
 ghost use lib.ListN.{length};
 ghost use Rattle.plan.specs.Tables.{edgesOf, edgeOf, atomOf};
-ghost use Rattle.walk.specs.Hopping.{bit, graphOf, Inside, Placed, Neighbours, Walked, Truth, SettledBy};
+ghost use Rattle.walk.specs.Hopping.{bit, graphOf, Inside, Placed, Neighbours, Walked, hopsOf, Truth, SettledBy};
 ghost use Rattle.walk.specs.Front.{UpTo, size, Visited};
 
 // The nodes that are reached, one bit for each, and in how many hops.
@@ -113,20 +113,27 @@ pub fn walk(neighbours: &[u64; 64], source: usize) -> Hops
     }
 }
 
+// A count as wide as an atom's bound.
+pub fn widened(count: u8) -> u16
+    ensures { λ r. ⌜ (r ≡ count) × (r < 256) ⌝ }
+{
+    count as u16
+}
+
 // Whether an atom is true in the graph of which these are the hops from its source.
-pub fn is_true(atom: Atom, hops: Hops) -> bool
+pub fn is_true(atom: Atom, reached: u64, counts: &[u8; 64]) -> bool
     requires { ⌜ atom .to < 64 ⌝ }
-    ensures { λ r. ⌜ Truth (atomOf atom) hops r ⌝ }
+    ensures { λ r. ⌜ Truth (atomOf atom) (hopsOf reached (now (counts .entry))) r ⌝ }
 {
     let to = plan::wide(atom.to);
-    if !has(hops.reached, to) {
+    if !has(reached, to) {
         return false;
     }
     let kind = atom.kind;
-    let count = hops.counts[to];
+    let count = counts[to];
     match kind {
         1 => true,
-        2 => count as u16 <= atom.bound,
+        2 => widened(count) <= atom.bound,
         _ => false,
     }
 }
@@ -136,10 +143,12 @@ pub fn settled(atom: Atom, under: Hops, over: Hops) -> State
     requires { ⌜ atom .to < 64 ⌝ }
     ensures { λ r. ⌜ SettledBy (atomOf atom) under over r ⌝ }
 {
-    if is_true(atom, under) {
+    let under_counts = under.counts;
+    if is_true(atom, under.reached, &under_counts) {
         return State::Holds;
     }
-    if is_true(atom, over) {
+    let over_counts = over.counts;
+    if is_true(atom, over.reached, &over_counts) {
         return State::Open;
     }
     State::Fails

@@ -6,8 +6,10 @@ use native.Mathlib.Omega.{arith}
 use borrow.Author.Needs.{needs}
 use lib.IntN.{ℤ}
 use lib.ListN.{length}
-use Rattle.plan.specs.Meaning.{Atom, atom}
+use Rattle.plan.specs.Meaning.{Edge, Atom, atom}
 use Rattle.plan.specs.Tables.{atomsOf, atomOf}
+use Rattle.walk.specs.Hopping.{hopsOf}
+use Rattle.walk.specs.declared.Hops.{Hops}
 use Rattle.closing.specs.Closed.{stepOf}
 use Rattle.closing.specs.Atoms.{AtomsReady, AtomFits, Told, Looked, ByHops}
 use Rattle.closing.proofs.Sweeping.{still-ready, told-looked, looked-start, looked-clash, looked-set, looked-still}
@@ -15,10 +17,11 @@ use Rattle.closing.proofs.look_along.Statement.{statement}
 use Rattle.closing.proofs.look_along.Tie as tie
 
 abbrev Inv-loop : tie.InvT-loop
-Inv-loop atoms count k source hops over values₀ changed₀ at₀ values changed at = (k ≤ at) × (at ≤ count) × Looked atoms over (ByHops over source hops) values₀ values k at (stepOf changed)
+Inv-loop atoms count k source reached counts over values₀ changed₀ at₀ values changed at =
+    (k ≤ at) × (at ≤ count) × Looked atoms over (ByHops over source (hopsOf reached counts)) values₀ values k at (stepOf changed)
 
 abbrev μ-loop : tie.MeasureT-loop
-μ-loop atoms count k source hops over values₀ changed₀ at₀ values changed at = count - at
+μ-loop atoms count k source reached counts over values₀ changed₀ at₀ values changed at = count - at
 
 loop-holds : tie.Need-loop-holds Inv-loop μ-loop
 loop-holds c =
@@ -28,6 +31,13 @@ loop-holds c =
 
 atom-at-requires : tie.Need-atom-at-requires Inv-loop μ-loop
 atom-at-requires c κs = omega (arith, c .before .before .before .pre .0 .long, c .loop-test .taken)
+
+-- the hops that are lent, and what is known by them
+abbrev hops : tie.Start Inv-loop μ-loop → Hops
+hops b = hopsOf (b .args .reached) (b .args .counts .now)
+
+abbrev known : tie.Start Inv-loop μ-loop → List Edge → List ℤ → Type 0
+known b = ByHops (b .args .over) (b .args .source) (hops b)
 
 -- the atom at the place
 module _ (c : tie.After-atom-at Inv-loop μ-loop) where
@@ -52,14 +62,14 @@ module _ (c : tie.After-look-at Inv-loop μ-loop) where
   seen = c .before .before .before .before
 
   abbrev after : List ℤ
-  after = c .look-at .last .1 .1 .1 .0
+  after = c .look-at .last .1 .1 .1 .1 .0
 
-  one : Looked (table seen) (begin seen .args .over) (ByHops (begin seen .args .over) (begin seen .args .source) (begin seen .args .hops)) (turn seen .loop .values) after (turn seen .loop .at) (turn seen .loop .at + 1) (c .look-at .result)
+  one : Looked (table seen) (begin seen .args .over) (known (begin seen)) (turn seen .loop .values) after (turn seen .loop .at) (turn seen .loop .at + 1) (c .look-at .result)
   one =
       let b = begin seen in
-      told-looked (table seen) (b .args .count) (b .args .over) (b .args .hops) (turn seen .loop .values) after (turn seen .loop .at) (c .look-at .result) (ready seen) (seen .before .loop-test .taken)
+      told-looked (table seen) (b .args .count) (b .args .over) (hops b) (turn seen .loop .values) after (turn seen .loop .at) (c .look-at .result) (ready seen) (seen .before .loop-test .taken)
       (c .look-at .ensures .0)
-      (subst (λ A. Told (b .args .over) A (b .args .hops) (turn seen .loop .values) after (c .look-at .result)) (seen .atom-at .ensures) (c .look-at .ensures .1))
+      (subst (λ A. Told (b .args .over) A (hops b) (turn seen .loop .values) after (c .look-at .result)) (seen .atom-at .ensures) (c .look-at .ensures .1))
       (b .args .source) (sym (ap (λ (A : Atom). A .from) (seen .atom-at .ensures)) ∙ c .before .before .if1 .left)
 
 told-requires : tie.Need-told-requires Inv-loop μ-loop
@@ -76,7 +86,7 @@ returns c =
     let first : turn d .loop .at ≡ b .args .k → ⊥ =
     λ e. c .before .if1 .taken (ap (λ (A : Atom). A .from) (d .atom-at .ensures) ∙ ap (λ n. atom (atomsOf (table d)) n .from) e ∙ b .pre .1 .1) in (
       (omega (arith, first, i .0), i .1),
-      subst (λ r. Looked (table d) (b .args .over) (ByHops (b .args .over) (b .args .source) (b .args .hops)) (b .args .values .now) (turn d .loop .values) (b .args .k) (turn d .loop .at) r) (sym (c .told .ensures)) (i .2),
+      subst (λ r. Looked (table d) (b .args .over) (known b) (b .args .values .now) (turn d .loop .values) (b .args .k) (turn d .loop .at) r) (sym (c .told .ensures)) (i .2),
     )
 
 look-at-requires : tie.Need-look-at-requires Inv-loop μ-loop
@@ -85,8 +95,8 @@ look-at-requires c κs = let d = c .before .before .before in (ready d .shape, (
 enum-told : tie.Need-enum-told Inv-loop μ-loop
 enum-told c = search needs
 
-add-t17 : tie.Need-add-t17 Inv-loop μ-loop
-add-t17 c = let h = seen (c .before .before .before) .before .loop-test .taken in search needs
+add-t18 : tie.Need-add-t18 Inv-loop μ-loop
+add-t18 c = let h = seen (c .before .before .before) .before .loop-test .taken in search needs
 
 returns-2 : tie.Need-returns-2 Inv-loop μ-loop
 returns-2 c =
@@ -96,7 +106,7 @@ returns-2 c =
     let i = turn d .loop .inv in
     let h = d .before .loop-test .taken in (
       (omega (arith, i .0), omega arith),
-      looked-clash (table d) (b .args .over) (ByHops (b .args .over) (b .args .source) (b .args .hops)) (b .args .values .now) (turn d .loop .values) (after l) (b .args .k) (turn d .loop .at) (turn d .loop .at + 1)
+      looked-clash (table d) (b .args .over) (known b) (b .args .values .now) (turn d .loop .values) (after l) (b .args .k) (turn d .loop .at) (turn d .loop .at + 1)
           (turn d .loop .changed) (b .pre .0 .shape) (i .2) (l .look-at .result) (c .enum-told .given .1) (one l),
     )
 
@@ -124,9 +134,9 @@ loop-again c =
     let h = d .before .loop-test .taken in (
       omega (arith, i .0),
       omega arith,
-      ⊎-elim (λ w. rw (w .2) (looked-set (table d) (b .args .over) (ByHops (b .args .over) (b .args .source) (b .args .hops)) (b .args .values .now) (turn d .loop .values) (after l) (b .args .k) (turn d .loop .at) (turn d .loop .at + 1)
+      ⊎-elim (λ w. rw (w .2) (looked-set (table d) (b .args .over) (known b) (b .args .values .now) (turn d .loop .values) (after l) (b .args .k) (turn d .loop .at) (turn d .loop .at + 1)
           (turn d .loop .changed) (b .pre .0 .shape) (i .2) (l .look-at .result) (w .1 .given .1) (one l)))
-          (λ w. rw (w .2) (looked-still (table d) (b .args .over) (ByHops (b .args .over) (b .args .source) (b .args .hops)) (b .args .values .now) (turn d .loop .values) (after l) (b .args .k) (turn d .loop .at) (turn d .loop .at + 1)
+          (λ w. rw (w .2) (looked-still (table d) (b .args .over) (known b) (b .args .values .now) (turn d .loop .values) (after l) (b .args .k) (turn d .loop .at) (turn d .loop .at + 1)
           (turn d .loop .changed) (b .pre .0 .shape) (i .2) (l .look-at .result) (w .1 .given .1) (one l))) (c .match .came),
     )
 
@@ -143,7 +153,7 @@ returns-3 c =
     let i = t .loop .inv in
     let e : t .loop .at ≡ b .args .count = omega (arith, i .1, c .before .loop-test .left) in (
       (omega (arith, e, b .pre .1 .0), i .1),
-      subst (λ r. Looked (b .args .atoms .now) (b .args .over) (ByHops (b .args .over) (b .args .source) (b .args .hops)) (b .args .values .now) (t .loop .values) (b .args .k) (t .loop .at) r) (sym (c .told2 .ensures)) (i .2),
+      subst (λ r. Looked (b .args .atoms .now) (b .args .over) (known b) (b .args .values .now) (t .loop .values) (b .args .k) (t .loop .at) r) (sym (c .told2 .ensures)) (i .2),
     )
 
 pub look-along-spec : {M : Type 1} → statement M
@@ -159,7 +169,7 @@ look-along-spec =
     returns
     look-at-requires
     enum-told
-    add-t17
+    add-t18
     same-length-2
     returns-2
     enum-told-2

@@ -7,6 +7,7 @@ use mir.Val.{SFits, ofZ, toZ}
 use mir.Facts.{toZ-ofZ}
 use Rattle.plan.specs.Ranged.{LiteralFits}
 use Rattle.plan.specs.Tables.{atomOf}
+use Rattle.walk.specs.Hopping.{hopsOf}
 use Rattle.closing.specs.Atoms.{givenBy, Gets}
 use Rattle.closing.proofs.Sweeping.{given-fits, gets-shape, silent, says}
 use borrow.Author.Needs.{needs}
@@ -20,7 +21,7 @@ returns : tie.Need-returns
 returns c =
     let d = c .before in
     let a = d .before .args in
-    (d .before .pre .0, λ φ v₀ k. inl (silent (a .over) (atomOf (a .atom)) (a .hops) (d .is-true .result) (d .is-true .ensures) (c .if1 .taken) φ v₀ k, refl, refl))
+    (d .before .pre .0, λ φ v₀ k. inl (silent (a .over) (atomOf (a .atom)) (hopsOf (a .reached) (a .counts .now)) (d .is-true .result) (d .is-true .ensures) (c .if1 .taken) φ v₀ k, refl, refl))
 
 given-requires : tie.Need-given-requires
 given-requires c κs = search needs
@@ -52,7 +53,7 @@ returns-2 c =
     let a = begin g .args in
     let h = subst (λ l. Gets l (a .values .now) (c .before .give .last .0) (c .before .give .result)) (literal-is g) (c .before .give .ensures) in (
       gets-shape (length (a .values .now)) (literal g) (a .values .now) (c .before .give .last .0) (fits g) (begin g .pre .0) (c .before .give .result) h,
-      λ φ v₀ k. inr (says (a .over) (atomOf (a .atom)) (a .hops) (d .is-true .result) (d .is-true .ensures) (g .before .before .if1 .left) φ v₀ k, h),
+      λ φ v₀ k. inr (says (a .over) (atomOf (a .atom)) (hopsOf (a .reached) (a .counts .now)) (d .is-true .result) (d .is-true .ensures) (g .before .before .if1 .left) φ v₀ k, h),
     )
 
 pub look-at-spec : {M : Type 1} → statement M

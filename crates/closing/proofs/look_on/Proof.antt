@@ -58,24 +58,24 @@ walk-requires c κs =
 
 look-along-requires : tie.Need-look-along-requires
 look-along-requires c κs =
-    let e = c .before .before .before .before in
-    let d = e .before in
-    (begin d .pre .0, (inside e, sym (ap (λ (A : Atom). A .from) (c .before .before .before .atom-at .ensures))))
+    let a = c .before .before .before .before .before in
+    let e = a .before in
+    (begin (e .before) .pre .0, (inside e, sym (ap (λ (A : Atom). A .from) (a .atom-at .ensures))))
 
 same-length-2 : tie.Need-same-length-2
 same-length-2 c = search needs
 
 returns-2 : tie.Need-returns-2
 returns-2 c =
-    let e = c .before .before .before .before .before .before in
+    let w = c .before .before .before .before .before in
+    let e = w .before .before .before in
     let d = e .before in
     let b = begin d in
     let l = c .before .look-along in
-    let w = c .before .before .before in
-    let h = looked-known (table d) (b .args .over) (ByHops (b .args .over) _ (w .walk .result)) (BySets (b .args .over) (b .args .sets .now)) (b .args .values .now) (l .last .1 .1 .1 .1 .1 .1 .0) (at d) (l .result .next) (l .result .step)
+    let h = looked-known (table d) (b .args .over) (ByHops (b .args .over) _ (w .walk .result)) (BySets (b .args .over) (b .args .sets .now)) (b .args .values .now) (l .last .1 .1 .1 .1 .1 .1 .1 .0) (at d) (l .result .next) (l .result .step)
     (sets-hops (b .args .over) (b .args .sets .now) (w .before .wide .result) _ (w .walk .result) (w .before .wide .ensures) (w .walk .ensures)) (l .ensures .1) in (
       (omega (arith, skipped d .after, l .ensures .0 .0), l .ensures .0 .1),
-      looked-earlier (table d) (b .args .count) (b .args .over) _ (b .args .values .now) (l .last .1 .1 .1 .1 .1 .1 .0) (b .args .k) (at d) (l .result .next) (l .result .step) (skipped d) h,
+      looked-earlier (table d) (b .args .count) (b .args .over) _ (b .args .values .now) (l .last .1 .1 .1 .1 .1 .1 .1 .0) (b .args .k) (at d) (l .result .next) (l .result .step) (skipped d) h,
     )
 
 pub look-on-spec : {M : Type 1} → statement M

@@ -17,10 +17,16 @@ shared-slice-copy-out-value : tie.Need-shared-slice-copy-out-value
 shared-slice-copy-out-value c = search needs
 
 returns : tie.Need-returns
-returns c = λ es x. right-on (trueIn (c .before .before .before .before .args .assignment .now) (on (c .before .before .before .before .args .atom .variable))) (c .before .before .before .is-true .result) (value-one (c .before .before .before .before .args .assignment .now) _ (c .before .before .wide .result) (c .before .before .wide .ensures) (c .before .before .before .before .pre .1 .0) (record { sfits = c .before .value .given }) (c .if1 .taken)) (c .before .before .before .is-true .ensures es _ x)
+returns c =
+    let w = c .before .before in
+    let b = w .before .before .before .before in
+    λ es x. right-on (trueIn (b .args .assignment .now) (on (b .args .atom .variable))) (w .before .is-true .result) (value-one (b .args .assignment .now) _ (w .wide .result) (w .wide .ensures) (b .pre .1 .0) (record { sfits = c .before .value .given }) (c .if1 .taken)) (w .before .is-true .ensures es _ x)
 
 returns-2 : tie.Need-returns-2
-returns-2 c = λ es x. right-off (trueIn (c .before .before .before .before .args .assignment .now) (on (c .before .before .before .before .args .atom .variable))) (c .before .before .before .is-true .result) (value-else (c .before .before .before .before .args .assignment .now) _ (c .before .before .wide .result) (c .before .before .wide .ensures) (c .before .before .before .before .pre .1 .0) (record { sfits = c .before .value .given }) (c .if1 .left)) (c .before .before .before .is-true .ensures es _ x)
+returns-2 c =
+    let w = c .before .before in
+    let b = w .before .before .before .before in
+    λ es x. right-off (trueIn (b .args .assignment .now) (on (b .args .atom .variable))) (w .before .is-true .result) (value-else (b .args .assignment .now) _ (w .wide .result) (w .wide .ensures) (b .pre .1 .0) (record { sfits = c .before .value .given }) (c .if1 .left)) (w .before .is-true .ensures es _ x)
 
 pub is-right-spec : {M : Type 1} → statement M
 is-right-spec =

@@ -15,7 +15,7 @@ is-true-requires-2 c κs = search needs
 
 returns-2 : tie.Need-returns-2
 returns-2 c = λ φ a u o. (
-  (λ h. not-so refl (c .before .before .if1 .left) (c .before .before .before .is-true .ensures (φ .edges) _ u .1 h)),
+  (λ h. not-so refl (c .before .before .before .before .if1 .left) (c .before .before .before .before .before .is-true .ensures (φ .edges) _ u .1 h)),
   (λ f. f (c .before .is-true2 .ensures (φ .edges) _ o .0 (so refl (c .if2 .taken)))),
 )
 
