@@ -21,19 +21,19 @@ use Rattle.plan.proofs.Add.{IsValue, on-one, off-one}
 use Rattle.plan.proofs.Signs.{natAbs-neg, not-below-zero}
 use Rattle.plan.proofs.Walks.{le-or-lt}
 use Rattle.unit.specs.Clauses.{Quiet}
-use Rattle.unit.specs.Queue.{Waits, Pending, None, Above, Since, literalOf, Queued}
+use Rattle.unit.specs.Queue.{Waits, Pending, None, Above, Since, literalAt, Queued}
 use Rattle.unit.proofs.Calm.{quiet-or-false}
 
 -- the literal of a place and its value, as the code makes it
-pub literal-off : (i : ℕ) (x : ℤ) → ltZ x (pos 0) ≡ true → off (i + 1) ≡ literalOf i x
-literal-off i (pos n) e = let h : n < 0 = ltb-true n 0 e in absurd (omega arith)
-literal-off i (negsuc n) e = refl
+pub literal-atf : (i : ℕ) (x : ℤ) → ltZ x (pos 0) ≡ true → off (i + 1) ≡ literalAt i x
+literal-atf i (pos n) e = let h : n < 0 = ltb-true n 0 e in absurd (omega arith)
+literal-atf i (negsuc n) e = refl
 
-pub literal-on : (i : ℕ) (x : ℤ) → ltZ x (pos 0) ≡ false → on (i + 1) ≡ literalOf i x
+pub literal-on : (i : ℕ) (x : ℤ) → ltZ x (pos 0) ≡ false → on (i + 1) ≡ literalAt i x
 literal-on i (pos n) e = refl
 literal-on i (negsuc n) e = absurd (not-below-zero (negsuc n) e)
 
-literal-fits : (n i : ℕ) (x : ℤ) → i < n → LiteralFits n (literalOf i x)
+literal-fits : (n i : ℕ) (x : ℤ) → i < n → LiteralFits n (literalAt i x)
 literal-fits n i (pos k) h = record { low = omega arith; high = omega arith }
 literal-fits n i (negsuc k) h = let e = natAbs-neg (pos (i + 1)) in record { low = omega arith; high = omega arith }
 
@@ -79,7 +79,7 @@ pub record Queueing (b v p : List ℤ) (end i : ℕ) : Type 0 where
   pub short : end ≤ i
   pub room : end + opens v ≤ i + opens (drop i v)
   pub fits : (k : ℕ) → k < end → LiteralFits (length v) (getD p k (pos 0))
-  pub there : (j : ℕ) → j < i → getD b j (pos 0) ≢ getD v j (pos 0) → InQueue p end (literalOf j (getD v j (pos 0)))
+  pub there : (j : ℕ) → j < i → getD b j (pos 0) ≢ getD v j (pos 0) → InQueue p end (literalAt j (getD v j (pos 0)))
 
 pub queueing-start : (b v p : List ℤ) → length p ≡ 512 → Queueing b v p 0 0
 queueing-start b v p e = record { inside = omega arith; long = e; short = omega arith; room = omega arith; fits = λ k h. absurd (omega arith); there = λ j h. absurd (omega arith) }
@@ -93,19 +93,19 @@ module _ (b v p : List ℤ) (end i : ℕ) (r : Queueing b v p end i) (h : i < le
       let q = opens-more (getD v i (pos 0)) (drop (i + 1) v) in
       record { inside = omega arith; long = r .long; short = omega (arith, r .short); room = omega (arith, r .room, rest); fits = r .fits; there = λ j l n. go j l n (ℕ-discrete j i) }
     where
-      go : (j : ℕ) → j < i + 1 → getD b j (pos 0) ≢ getD v j (pos 0) → Dec (j ≡ i) → InQueue p end (literalOf j (getD v j (pos 0)))
+      go : (j : ℕ) → j < i + 1 → getD b j (pos 0) ≢ getD v j (pos 0) → Dec (j ≡ i) → InQueue p end (literalAt j (getD v j (pos 0)))
       go j l n (yes q) = absurd (n (rw q e))
       go j l n (no d) = r .there j (omega arith) n
 
   module _ (small : length v ≤ 512) (kept : Above b v) (apart : getD b i (pos 0) ≢ getD v i (pos 0)) where
     abbrev put : List ℤ
-    put = set p end (literalOf i (getD v i (pos 0)))
+    put = set p end (literalAt i (getD v i (pos 0)))
 
-    put-here : getD put end (pos 0) ≡ literalOf i (getD v i (pos 0))
-    put-here = getD-set-same p end (literalOf i (getD v i (pos 0))) (pos 0) (omega (arith, r .long, r .short))
+    put-here : getD put end (pos 0) ≡ literalAt i (getD v i (pos 0))
+    put-here = getD-set-same p end (literalAt i (getD v i (pos 0))) (pos 0) (omega (arith, r .long, r .short))
 
     put-before : (k : ℕ) → k < end → getD put k (pos 0) ≡ getD p k (pos 0)
-    put-before k l = getD-set-other p end k (literalOf i (getD v i (pos 0))) (pos 0) (λ e. omega arith)
+    put-before k l = getD-set-other p end k (literalAt i (getD v i (pos 0))) (pos 0) (λ e. omega arith)
 
     pub queueing-put : Queueing b v put (end + 1) (i + 1)
     queueing-put =
@@ -123,7 +123,7 @@ module _ (b v p : List ℤ) (end i : ℕ) (r : Queueing b v p end i) (h : i < le
         fit k l (yes e) = rw e (rw put-here (literal-fits (length v) i (getD v i (pos 0)) h))
         fit k l (no d) = let m : k < end = omega arith in rw (put-before k m) (r .fits k m)
 
-        go : (j : ℕ) → j < i + 1 → getD b j (pos 0) ≢ getD v j (pos 0) → Dec (j ≡ i) → InQueue put (end + 1) (literalOf j (getD v j (pos 0)))
+        go : (j : ℕ) → j < i + 1 → getD b j (pos 0) ≢ getD v j (pos 0) → Dec (j ≡ i) → InQueue put (end + 1) (literalAt j (getD v j (pos 0)))
         go j l n (yes e) = (end, omega arith, rw e put-here)
         go j l n (no d) = let q = r .there j (omega arith) n in (q .0, omega (arith, q .1), put-before (q .0) (q .1) ∙ q .2)
 
@@ -138,12 +138,12 @@ module _ (cs b v p : List ℤ) (end : ℕ) (since : Since cs b v) (r : Queued b 
   abbrev kept : Above b v
   kept = since .kept
 
-  changed-at : (i : ℕ) (x : ℤ) → x ≢ pos 0 → getD v i (pos 0) ≡ x → (getD (kept .before) i (pos 0) ≡ x → ⊥) → InQueue p end (literalOf i x)
+  changed-at : (i : ℕ) (x : ℤ) → x ≢ pos 0 → getD v i (pos 0) ≡ x → (getD (kept .before) i (pos 0) ≡ x → ⊥) → InQueue p end (literalAt i x)
   changed-at i x z e n = go (le-or-lt (length v) i)
     where
-      go : (length v ≤ i) ⊎ (i < length v) → InQueue p end (literalOf i x)
+      go : (length v ≤ i) ⊎ (i < length v) → InQueue p end (literalAt i x)
       go (inl h) = absurd (z (sym e ∙ List·getD-eq-default v (pos 0) h))
-      go (inr h) = subst (λ y. InQueue p end (literalOf i y)) e (r .there i h (λ q. n (sym (begins b v kept i h) ∙ q ∙ e)))
+      go (inr h) = subst (λ y. InQueue p end (literalAt i y)) e (r .there i h (λ q. n (sym (begins b v kept i h) ∙ q ∙ e)))
 
   changed-in : (l : ℤ) → T (trueIn v l) → (T (trueIn (kept .before) l) → ⊥) → InQueue p end l
   unfolding trueIn value

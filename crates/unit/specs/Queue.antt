@@ -86,13 +86,13 @@ pub record Since (cs b v : List ℤ) : Type 0 where
   pub quiet : AllQuiet (trueIn (kept .before)) (clausesOf cs)
 
 -- The literal of the variable at place i that has the value x.
-abbrev pub literalOf : ℕ → ℤ → ℤ
-literalOf i (pos n) = on (i + 1)
-literalOf i (negsuc n) = off (i + 1)
+abbrev pub literalAt : ℕ → ℤ → ℤ
+literalAt i (pos n) = on (i + 1)
+literalAt i (negsuc n) = off (i + 1)
 
 -- The literals that v has and b has not are in the queue.
 pub record Queued (b v p : List ℤ) (end : ℕ) : Type 0 where
   pub long : length p ≡ 512
   pub room : end + opens v ≤ 512
   pub fits : (k : ℕ) → k < end → LiteralFits (length v) (getD p k (pos 0))
-  pub there : (i : ℕ) → i < length v → getD b i (pos 0) ≢ getD v i (pos 0) → (k : ℕ) × (k < end) × (getD p k (pos 0) ≡ literalOf i (getD v i (pos 0)))
+  pub there : (i : ℕ) → i < length v → getD b i (pos 0) ≢ getD v i (pos 0) → (k : ℕ) × (k < end) × (getD p k (pos 0) ≡ literalAt i (getD v i (pos 0)))

@@ -6,7 +6,7 @@ ghost use Rattle.plan.specs.Ranged.{LiteralFits};
 ghost use Rattle.plan.specs.Search.{Assigned, opens};
 ghost use Rattle.index.specs.Places.{Indexable, Indexed};
 ghost use Rattle.unit.specs.Clauses.{Ready, Stops, Stop, End, Begin, SaysAt, Propagated};
-ghost use Rattle.unit.specs.Queue.{Applied, Pending, None, Leads, Known, Above, Since, literalOf, Queued};
+ghost use Rattle.unit.specs.Queue.{Applied, Pending, None, Leads, Known, Above, Since, literalAt, Queued};
 
 // What a clause says of an assignment.
 pub enum Said {
@@ -238,9 +238,9 @@ pub fn propagate(clauses: &[i16], places: &[u16; 6145], tried: i16, values: &mut
 }
 
 // The literal of the variable at a place that has this value.
-fn literal_of(place: usize, value: i8) -> i16
+fn literal_at(place: usize, value: i8) -> i16
     requires { ⌜ place < 512 ⌝ }
-    ensures { λ r. ⌜ r ≡ literalOf place value ⌝ }
+    ensures { λ r. ⌜ r ≡ literalAt place value ⌝ }
 {
     let variable = (place + 1) as i16;
     if value < 0 {
@@ -262,7 +262,7 @@ fn queue_changes(before: &[i8; 512], values: &[i8], queue: &mut [i16; 512]) -> u
     while i < values.len() {
         let value = values[i];
         if value != before[i] {
-            queue[end] = literal_of(i, value);
+            queue[end] = literal_at(i, value);
             end += 1;
         }
         i += 1;

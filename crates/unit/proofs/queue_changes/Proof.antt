@@ -9,7 +9,7 @@ use mir.Syntax.{w8, w16}
 use mir.Val.{SFits, ofZ}
 use mir.Facts.{toZ-ofZ}
 use Rattle.plan.proofs.Signs.{bits-same}
-use Rattle.unit.specs.Queue.{literalOf}
+use Rattle.unit.specs.Queue.{literalAt}
 use Rattle.unit.proofs.Changes.{Queueing, queueing-start, queueing-same, queueing-put, queueing-ends}
 use Rattle.unit.proofs.queue_changes.Statement.{statement}
 use Rattle.unit.proofs.queue_changes.Tie as tie
@@ -52,14 +52,14 @@ module _ (c : tie.After-if12 Inv-loop μ-loop) where
   is-fits : SFits w8 is
   is-fits = search needs
 
-  puts : ofZ w8 is ≢ ofZ w8 was → Queueing (begin .args .before .now) (begin .args .values .now) (set (turn .loop .queue) (turn .loop .end) (literalOf (turn .loop .i) is)) (turn .loop .end + 1) (turn .loop .i + 1)
+  puts : ofZ w8 is ≢ ofZ w8 was → Queueing (begin .args .before .now) (begin .args .values .now) (set (turn .loop .queue) (turn .loop .end) (literalAt (turn .loop .i) is)) (turn .loop .end + 1) (turn .loop .i + 1)
   puts n = queueing-put _ _ _ _ _ (turn .loop .inv) (c .before .before .loop-test .taken) (begin .pre .1 .0) (begin .pre .1 .1 .0) (λ e. n (ap (ofZ w8) (sym e)))
 
   keeps : ofZ w8 is ≡ ofZ w8 was → Queueing (begin .args .before .now) (begin .args .values .now) (turn .loop .queue) (turn .loop .end) (turn .loop .i + 1)
   keeps e = queueing-same _ _ _ _ _ (turn .loop .inv) (c .before .before .loop-test .taken) (sym (bits-same w8 _ _ is-fits was-fits e))
 
-literal-of-requires : tie.Need-literal-of-requires Inv-loop μ-loop
-literal-of-requires c κs = within (c .before)
+literal-at-requires : tie.Need-literal-at-requires Inv-loop μ-loop
+literal-at-requires c κs = within (c .before)
 
 mul-t14 : tie.Need-mul-t14 Inv-loop μ-loop
 mul-t14 c = let h = within (c .before .before) in let g = turn (c .before .before) .loop .inv .short in search needs
@@ -80,7 +80,7 @@ loop-again : tie.Need-loop-again Inv-loop μ-loop
 loop-again c =
     let d = c .before in
     ⊎-elim
-    (λ q. let f : SFits w16 (q .1 .result) = search needs in rw (q .2) (rw (q .3) (rw (toZ-ofZ f ∙ q .1 .ensures ∙ ap (literalOf (turn d .loop .i)) (toZ-ofZ (is-fits d))) (puts d (q .0 .taken)))))
+    (λ q. let f : SFits w16 (q .1 .result) = search needs in rw (q .2) (rw (q .3) (rw (toZ-ofZ f ∙ q .1 .ensures ∙ ap (literalAt (turn d .loop .i)) (toZ-ofZ (is-fits d))) (puts d (q .0 .taken)))))
     (λ q. rw (q .1) (rw (q .2) (keeps d (q .0 .left))))
     (c .if1 .came)
 
@@ -96,7 +96,7 @@ queue-changes-spec =
     loop-holds
     shared-slice-copy-out-value
     element-copy-out-if1
-    literal-of-requires
+    literal-at-requires
     mul-t14
     element-set-from-queue
     add-end
