@@ -20,7 +20,7 @@ test:
 compare:
 	rt check
 	tests/compare --programs target/bin --run "$$(tests/runner)" --seed $(SEED) --files $(N) --calls $(CALLS)
-	tests/deep --programs target/bin --run "$$(tests/runner)"
+	tests/outputs --programs target/bin --run "$$(tests/runner)"
 
 bench:
 	rt check
