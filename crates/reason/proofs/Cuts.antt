@@ -16,7 +16,7 @@ use Rattle.walk.specs.Hopping.{bit, HopTable}
 use Rattle.walk.specs.declared.Hops.{Hops}
 use Rattle.walk.proofs.Truths.{reached-hops, hops-reached, hops-count}
 use Rattle.reason.specs.Marks.{MarksAlso, CutBelow}
-use Rattle.reason.proofs.Paths.{marks-more, marks-none}
+use Rattle.reason.proofs.Paths.{marks-more, marks-none, nearer-count}
 
 -- the code's answer whether an edge is in the over graph
 module _ (a : List ℤ) (v : ℕ) {r : Bool} (is : r ≡ not (trueIn a (off v))) where
@@ -57,27 +57,28 @@ module _ {es : List Edge} {g : Graph} {s : ℕ} {h : Hops} (x : HopTable es g s 
       (λ c. not-T (bit (e .to) (h .reached)) (λ y. (subst (λ (k : ℕ). Across k es g d s e) is c) .1 (reached-reaches (e .to) y))),
     )
 
-    pub across-late : kind ≡ 2 → d ≤ getD (h .counts) (e .from) 0 → Across kind es g d s e → ⊥
-    across-late is l c =
-        let q : Across 2 es g d s e = subst (λ (k : ℕ). Across k es g d s e) is c in
-        omega (arith, hops-count x (e .from) (q .0) (q .2), q .1)
+    -- the start is n hops away
+    module _ (is : kind ≡ 2) (n : ℕ) (near : n ≡ getD (h .counts) (e .from) 0) where
+      pub across-late : d ≤ n → Across kind es g d s e → ⊥
+      across-late l c =
+          let q : Across 2 es g d s e = subst (λ (k : ℕ). Across k es g d s e) is c in
+          omega (arith, hops-count x (e .from) (q .0) (q .2), q .1)
 
-    module _ (is : kind ≡ 2) (soon : getD (h .counts) (e .from) 0 < d) where
-      pub across-none : (T (bit (e .to) (h .reached)) → ⊥) → Across kind es g d s e
-      across-none n = subst (λ (k : ℕ). Across k es g d s e) (sym is)
-          (getD (h .counts) (e .from) 0, soon, reached-hops x (e .from) start, λ j y. absurd (n (hops-reached x (e .to) j y)))
+      module _ (soon : n < d) where
+        pub across-none : (T (bit (e .to) (h .reached)) → ⊥) → Across kind es g d s e
+        across-none o = subst (λ (k : ℕ). Across k es g d s e) (sym is)
+            (n, soon, nearer-count x n e start .0 (sym near), λ j y. absurd (o (hops-reached x (e .to) j y)))
 
-      pub across-far : T (bit (e .to) (h .reached)) → T (ltb (getD (h .counts) (e .from) 0 + 1) (getD (h .counts) (e .to) 0)) ↔ Across kind es g d s e
-      across-far y = (
-        (λ t.
-            let l : getD (h .counts) (e .from) 0 + 1 < getD (h .counts) (e .to) 0 = ltb→lt _ _ t in
-            subst (λ (k : ℕ). Across k es g d s e) (sym is)
-            (getD (h .counts) (e .from) 0, soon, reached-hops x (e .from) start, λ j z. omega (arith, hops-count x (e .to) j z))),
-        (λ c.
-            let q : Across 2 es g d s e = subst (λ (k : ℕ). Across k es g d s e) is c in
-            lt→ltb (getD (h .counts) (e .from) 0 + 1) (getD (h .counts) (e .to) 0)
-            (omega (arith, hops-count x (e .from) (q .0) (q .2), q .3 (getD (h .counts) (e .to) 0) (reached-hops x (e .to) y)))),
-      )
+        pub across-far : T (bit (e .to) (h .reached)) → (m : ℕ) → m ≡ getD (h .counts) (e .to) 0 → T (ltb (n + 1) m) ↔ Across kind es g d s e
+        across-far y m far = (
+          (λ t.
+              let l : n + 1 < m = ltb→lt _ _ t in
+              subst (λ (k : ℕ). Across k es g d s e) (sym is)
+              (n, soon, nearer-count x n e start .0 (sym near), λ j z. omega (arith, hops-count x (e .to) j z))),
+          (λ c.
+              let q : Across 2 es g d s e = subst (λ (k : ℕ). Across k es g d s e) is c in
+              lt→ltb (n + 1) m (omega (arith, hops-count x (e .from) (q .0) (q .2), q .3 (getD (h .counts) (e .to) 0) (reached-hops x (e .to) y)))),
+        )
 
 -- ---- the marks
 

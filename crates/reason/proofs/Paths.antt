@@ -63,6 +63,14 @@ marks-as e x = record {
   );
 }
 
+-- ---- what a test answers: no, and with a fact known before it
+
+pub never : {P : Type 0} → (P → ⊥) → ⊥ ↔ P
+never n = ((λ z. absurd z), n)
+
+pub also : {R P Q : Type 0} → P → R ↔ Q → R ↔ (P × Q)
+also p f = ((λ t. (p, f .0 t)), (λ q. f .1 (q .1)))
+
 -- ---- the nearer edge
 
 module _ {es : List Edge} {g : Graph} {s : ℕ} {h : Hops} (x : HopTable es g s h) (k : ℕ) (e : Edge) where

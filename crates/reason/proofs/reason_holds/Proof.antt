@@ -1,9 +1,11 @@
 use mathlib.Core.Path.{refl}
+use mathlib.Core.List.{List}
 use native.Mathlib.Omega.{arith}
 use lib.ListN.{length, getD}
-use Rattle.plan.specs.Meaning.{trueIn, under}
+use Rattle.plan.specs.Meaning.{Edge, trueIn, under}
 use Rattle.plan.specs.Meaning as meaning
 use Rattle.plan.specs.Tables.{edgesOf, atomOf}
+use Rattle.walk.specs.Hopping.{HopTable}
 use Rattle.walk.proofs.Truths.{reached-hops}
 use Rattle.reason.proofs.Answering.{true-reached, holds-answer}
 use borrow.Author.Needs.{needs}
@@ -17,36 +19,55 @@ element-copy-out-count : tie.Need-element-copy-out-count
 element-copy-out-count c = search needs
 
 -- the hops to the target
-nearest : (c : tie.After-wide) → meaning.Hops (edgesOf (c .before .before .args .edges .now)) (under (trueIn (c .before .before .args .assignment .now))) (c .before .before .args .atom .from) (c .wide .result)
-    (getD (c .before .before .args .t4 .counts) (c .wide .result) 0)
-nearest c =
-    let x = c .before .before .pre .1 .1 .1 .1 .1 .0 in
-    reached-hops x (c .wide .result) (rw (c .wide .ensures) (true-reached x (c .before .before .args .atom .kind) (c .before .before .args .atom .bound) (c .before .before .args .atom .to) (c .before .before .pre .1 .1 .1 .1 .1 .1)))
+module _ (c : tie.After-wide) where
+  abbrev begin : tie.Start
+  begin = c .before .before
+
+  abbrev edges : List Edge
+  edges = edgesOf (begin .args .edges .now)
+
+  table : HopTable edges (under (trueIn (begin .args .assignment .now))) (begin .args .atom .from) (begin .args .t4)
+  table = begin .pre .1 .1 .1 .1 .1 .0
+
+  nearest : meaning.Hops edges (under (trueIn (begin .args .assignment .now))) (begin .args .atom .from) (c .wide .result) (getD (begin .args .t4 .counts) (c .wide .result) 0)
+  nearest =
+      let A = begin .args .atom in
+      reached-hops table (c .wide .result) (rw (c .wide .ensures) (true-reached table (A .kind) (A .bound) (A .to) (begin .pre .1 .1 .1 .1 .1 .1)))
 
 mark-path-requires : tie.Need-mark-path-requires
 mark-path-requires c κs =
-    let k = nearest (c .before .before) in
-    (c .before .before .before .before .pre .0, (c .before .before .before .before .pre .1 .0, (c .before .before .before .before .pre .1 .1 .0, ((c .before .before .before .before .args .atom .from, c .before .before .before .before .pre .1 .1 .1 .1 .1 .0, k), refl))))
+    let d = c .before .before in
+    let p = begin d .pre in
+    (p .0, (p .1 .0, (p .1 .1 .0, ((begin d .args .atom .from, table d, nearest d), refl))))
 
 wide-requires-2 : tie.Need-wide-requires-2
 wide-requires-2 c κs = search needs
 
+-- behind the marking of the path
+module _ (c : tie.After-wide2) where
+  abbrev target : tie.After-wide
+  target = c .before .before .before .before
+
+  abbrev start : tie.Start
+  start = begin target
+
 write-answer-requires : tie.Need-write-answer-requires
 write-answer-requires c κs =
-    let p = c .before .before .before .mark-path .ensures (c .before .before .before .before .before .before .before .before .args .atom .from) (c .before .before .before .before .before .before .before .before .pre .1 .1 .1 .1 .1 .0) in
-    (p .marks .long, (c .before .before .before .before .before .before .before .before .pre .1 .1 .0, omega (arith, c .before .before .wide2 .ensures, c .before .before .before .before .before .before .before .before .pre .1 .1 .1 .1 .0)))
+    let d = c .before .before in
+    let p = start d .pre in
+    (d .before .mark-path .ensures (start d .args .atom .from) (table (target d)) .marks .long, (p .1 .1 .0, omega (arith, d .wide2 .ensures, p .1 .1 .1 .1 .0)))
 
 same-length : tie.Need-same-length
 same-length c = search needs
 
 returns : tie.Need-returns
-returns c = λ φ e.
-    let d = c .before .before .before .before .before .before .before .before .before .before in
-    let x = d .pre .1 .1 .1 .1 .1 .0 in
-    holds-answer (edgesOf (d .args .edges .now)) (d .args .assignment .now) (atomOf (d .args .atom)) (length (d .args .assignment .now)) (c .before .before .before .before .wide2 .result)
-    _ (c .before .write-answer .result) (d .args .out .now) _ (d .pre .1 .0) (c .before .before .before .before .wide2 .ensures) φ e
-    (c .before .before .before .before .before .before .before .before .wide .result) _ (c .before .before .before .before .before .before .before .before .wide .ensures) (d .pre .1 .1 .1 .1 .1 .1) (nearest (c .before .before .before .before .before .before .before .before))
-    (c .before .before .before .before .before .mark-path .ensures (d .args .atom .from) x) (c .before .write-answer .ensures)
+returns c φ e =
+    let d = c .before .before .before .before in
+    let t = start d .args in
+    let p = start d .pre in
+    holds-answer (edges (target d)) (t .assignment .now) (atomOf (t .atom)) (length (t .assignment .now)) (d .wide2 .result) _ (c .before .write-answer .result) (t .out .now) _
+    (p .1 .0) (d .wide2 .ensures) φ e (target d .wide .result) _ (target d .wide .ensures) (p .1 .1 .1 .1 .1 .1) (nearest (target d))
+    (d .before .mark-path .ensures (t .atom .from) (table (target d))) (c .before .write-answer .ensures)
 
 pub reason-holds-spec : {M : Type 1} → statement M
 reason-holds-spec =
