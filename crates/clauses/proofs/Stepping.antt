@@ -1,11 +1,13 @@
 -- The blocks one atom after the other, as a loop meets them.
 -- Assumes nothing.
-use mathlib.Core.Path.{_≡_, refl, sym, _∙_, ap, ap₂}
+use mathlib.Core.Path.{_≡_, refl, sym, _∙_, ap, ap₂, subst}
 use mathlib.Core.List.{List, [], _∷_, _++_, append-assoc, append-nil}
 use Prim.Native.Nat.{ℕ, zero, suc, _+_, _-_, _≤_, _<_, min}
 use native.Mathlib.Omega.{arith}
 use native.Mathlib.Numerals.{add-one}
+use lib.IntN.{ℤ}
 use lib.ListN.{length, take, length-take}
+use lib.Seq.{take-all}
 use Rattle.plan.specs.Meaning.{Edge, Atom, atom}
 use Rattle.plan.specs.Written.{each, flat, levels, levelsOf, blockVariables, blockClauses, blockNumbers, atomBlock, after, blocks, last}
 use Rattle.encoding.specs.Counts.{total}
@@ -27,13 +29,17 @@ module _ (n : ℕ) (es : List Edge) where
   abbrev pub before : ℕ → List Atom → ℕ → ℕ
   before base As j = last n es base (take j As)
 
-  pub blocks-each : (base : ℕ) (As : List Atom) → flat (blocks n es base As) ≡ each (length As) (λ j. flat (atomBlock n es (before base As j) (atom As j)))
+  -- atom j's block, as it is written
+  abbrev pub piece : ℕ → List Atom → ℕ → List ℤ
+  piece base As j = flat (atomBlock n es (before base As j) (atom As j))
+
+  pub blocks-each : (base : ℕ) (As : List Atom) → flat (blocks n es base As) ≡ each (length As) (piece base As)
   unfolding blocks flat each last
   blocks-each base [] = refl
   blocks-each base (A ∷ As) =
       flat-append (atomBlock n es base A) (blocks n es (after n es base A) As)
       ∙ ap (λ l. flat (atomBlock n es base A) ++ l) (blocks-each (after n es base A) As)
-      ∙ sym (each-first (length As) (λ j. flat (atomBlock n es (before base (A ∷ As) j) (atom (A ∷ As) j))))
+      ∙ sym (each-first (length As) (piece base (A ∷ As)))
 
   pub before-next : (base : ℕ) (As : List Atom) (j : ℕ) → j < length As → before base As (j + 1) ≡ after n es (before base As j) (atom As j)
   unfolding last
@@ -75,32 +81,39 @@ module _ (n : ℕ) (A : Atom) where
       none (suc (suc zero)) h k = absurd (k refl)
       none (suc (suc (suc i))) h k = refl
 
--- one turn of the loop over the atoms: where the next block starts, what it is, and that its numbers are low
-module _ (n : ℕ) (es : List Edge) (base : ℕ) (As : List Atom) (low : LowBlocks es n base As) (j : ℕ) (l : j < length As)
-    (b top : ℕ) (at : b ≡ before n es base As j) (A : Atom) (is : A ≡ atom As j) (levels-is : top ≡ levels n A) where
-  pub next-row : blockRow n es b top (A .from) (A .to) (A .variable) ≡ flat (atomBlock n es (before n es base As j) (atom As j))
+-- one turn of the loop over the atoms: b is the last variable before atom j's block, A is that atom and top its levels
+pub record Turn (n : ℕ) (es : List Edge) (base : ℕ) (As : List Atom) (j b top : ℕ) (A : Atom) : Type 0 where
+  pub low : LowBlocks es n base As
+  pub inside : j < length As
+  pub at : b ≡ before n es base As j
+  pub is : A ≡ atom As j
+  pub levels-is : top ≡ levels n A
+
+-- where the next block starts, what it is, and that its numbers are low
+module _ {n : ℕ} {es : List Edge} {base : ℕ} {As : List Atom} {j b top : ℕ} {A : Atom} (t : Turn n es base As j b top A) where
+  pub next-row : blockRow n es b top (A .from) (A .to) (A .variable) ≡ piece n es base As j
   next-row =
-      ap (λ L. blockRow n es b L (A .from) (A .to) (A .variable)) levels-is ∙ sym (atom-is n es b A)
-      ∙ ap₂ (λ x B. flat (atomBlock n es x B)) at is
+      ap (λ L. blockRow n es b L (A .from) (A .to) (A .variable)) (t .levels-is) ∙ sym (atom-is n es b A)
+      ∙ ap₂ (λ x B. flat (atomBlock n es x B)) (t .at) (t .is)
 
   pub next-before : b + blockVariables n (length es) top ≡ before n es base As (j + 1)
   next-before =
-      ap₂ (λ x L. x + blockVariables n (length es) L) at (levels-is ∙ ap (levels n) is)
-      ∙ sym (before-next n es base As j l)
+      ap₂ (λ x L. x + blockVariables n (length es) L) (t .at) (t .levels-is ∙ ap (levels n) (t .is))
+      ∙ sym (before-next n es base As j (t .inside))
 
   pub next-last : b + blockVariables n (length es) top < 1000000000
-  next-last = omega (arith, next-before, before-le n es base As (j + 1), low .last)
+  next-last = omega (arith, next-before, before-le n es base As (j + 1), t .low .last)
 
   pub next-low : LowBlock es n b top
   unfolding blockVariables
-  next-low = record { few = low .few; nodes = low .nodes; last = omega (arith, low .node, next-last) }
+  next-low = record { few = t .low .few; nodes = t .low .nodes; last = omega (arith, t .low .node, next-last) }
 
   pub next-limits : InLimits n (length es) top
-  next-limits = record { nodes = low .nodes; edges = low .few; levels = omega (arith, levels-is, levels-le n A) }
+  next-limits = record { nodes = t .low .nodes; edges = t .low .few; levels = omega (arith, t .levels-is, levels-le n A) }
 
 -- the counts up to atom j
-module _ (n : ℕ) (es : List Edge) (As : List Atom) (own counts : Counts) (can : Countable n es As own) (j : ℕ) (l : j < length As)
-    (added : Added n (length es) (take j As) own counts) (top : ℕ) (A : Atom) (is : A ≡ atom As j) (levels-is : top ≡ levels n A) where
+module _ {n : ℕ} {es : List Edge} {As : List Atom} {own counts : Counts} (can : Countable n es As own) {j : ℕ} (l : j < length As)
+    (added : Added n (length es) (take j As) own counts) {top : ℕ} {A : Atom} (is : A ≡ atom As j) (levels-is : top ≡ levels n A) where
   pub limits : InLimits n (length es) top
   limits = record { nodes = can .nodes; edges = can .edges; levels = omega (arith, levels-is, levels-le n A) }
 
@@ -114,8 +127,8 @@ module _ (n : ℕ) (es : List Edge) (As : List Atom) (own counts : Counts) (can 
         numbers = omega (arith, k, can .atoms, can .numbers, added .numbers, total-le (blockNumbers n m) n 250118 (block-numbers-most n m (can .nodes) (can .edges)) (take j As));
       }
 
-  pub added-next : (more : Counts) → AddedOne n (length es) top counts more → Added n (length es) (take (j + 1) As) own more
-  added-next more one =
+  pub added-next : {more : Counts} → AddedOne n (length es) top counts more → Added n (length es) (take (j + 1) As) own more
+  added-next one =
       let m = length es in
       let e : top ≡ levels n (atom As j) = levels-is ∙ ap (levels n) is in
       record {
@@ -127,3 +140,7 @@ module _ (n : ℕ) (es : List Edge) (As : List Atom) (own counts : Counts) (can 
 pub added-none : (n m : ℕ) (As : List Atom) (own : Counts) → Added n m (take 0 As) own own
 unfolding total
 added-none n m As own = record { variables = omega arith; clauses = omega arith; numbers = omega arith }
+
+-- at the end all atoms are counted
+pub added-all : {n m : ℕ} {As : List Atom} {own counts : Counts} (j : ℕ) → Added n m (take j As) own counts → length As ≤ j → Added n m As own counts
+added-all {n} {m} {As} {own} {counts} j added l = subst (λ Bs. Added n m Bs own counts) (take-all j As l) added

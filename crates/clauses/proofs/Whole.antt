@@ -17,15 +17,19 @@ use Rattle.clauses.specs.declared.Counts.{Counts}
 use Rattle.clauses.specs.Front.{Room, Put}
 use Rattle.clauses.specs.Rows.{LowBlocks}
 use Rattle.clauses.specs.Writing.{WrittenOut, TooShort, Added, Countable}
-use Rattle.clauses.proofs.Fronts.{put-as}
+use Rattle.clauses.proofs.Fronts.{rest, joined, put-as, put-then}
 
-module _ (p : Plan) (edges atoms : List ℕ) (clauses : List ℤ) (lent : Lent p edges atoms clauses)
-    (nodes variables : ℕ) (n-is : nodes ≡ p .nodes) (v-is : variables ≡ p .variables) where
+module _ {p : Plan} {edges atoms : List ℕ} {clauses : List ℤ} (lent : Lent p edges atoms clauses)
+    {nodes variables : ℕ} (n-is : nodes ≡ p .nodes) (v-is : variables ≡ p .variables) where
   abbrev φ : PlanFile
   φ = planOf p edges atoms clauses
 
   abbrev own : Counts
   own = record { variables = variables; clauses = p .clauses; numbers = length clauses }
+
+  -- the numbers of the blocks
+  abbrev behind : List ℤ
+  behind = flat (blocks nodes (edgesOf edges) variables (atomsOf atoms))
 
   -- the table holds the literals and a 0 for each clause
   table-length : length clauses ≡ literals (clausesOf clauses) + length (clausesOf clauses)
@@ -51,33 +55,33 @@ module _ (p : Plan) (edges atoms : List ℕ) (clauses : List ℤ) (lent : Lent p
       record { few = r .edges; node = omega (arith, r .node); nodes = omega (arith, r .nodes); last = rw (n-is, v-is) (omega (arith, small φ r .variables)) }
 
   -- the file's own numbers, then those of the blocks
-  whole-is : clauses ++ flat (blocks nodes (edgesOf edges) variables (atomsOf atoms)) ≡ flat (written φ)
+  whole-is : clauses ++ behind ≡ flat (written φ)
   unfolding written
   whole-is =
       ap₂ (λ n v. clauses ++ flat (blocks n (edgesOf edges) v (atomsOf atoms))) n-is v-is
       ∙ ap (λ l. l ++ flat (blocks (p .nodes) (edgesOf edges) (p .variables) (atomsOf atoms))) (sym (lent .ended))
       ∙ sym (flat-append (clausesOf clauses) (blocks (p .nodes) (edgesOf edges) (p .variables) (atomsOf atoms)))
 
-  module _ (counts : Counts) (added : Added nodes (length (edgesOf edges)) (atomsOf atoms) own counts) where
+  module _ {counts : Counts} (added : Added nodes (length (edgesOf edges)) (atomsOf atoms) own counts) where
     at-nodes : Added (p .nodes) (length (edgesOf edges)) (atomsOf atoms) own counts
     at-nodes = subst (λ n. Added n (length (edgesOf edges)) (atomsOf atoms) own counts) n-is added
 
     numbers-are : counts .numbers ≡ length (flat (written φ))
     numbers-are = omega (arith, at-nodes .numbers, table-length, counted φ (lent .ranged) .numbers)
 
-    pub room : (out : List ℤ) → counts .numbers ≤ length out → Room (clauses ++ flat (blocks nodes (edgesOf edges) variables (atomsOf atoms))) out
-    room out h = record { fits = omega (arith, numbers-are, ap length whole-is) }
+    pub room : {out : List ℤ} → counts .numbers ≤ length out → Room (clauses ++ behind) out
+    room h = record { fits = omega (arith, numbers-are, ap length whole-is) }
 
-    pub too-short : (out : List ℤ) → length out < counts .numbers → TooShort φ out out (counts .numbers)
-    too-short out h = record { numbers = numbers-are; room = h; kept = refl }
+    pub too-short : {out : List ℤ} → length out < counts .numbers → TooShort φ out out (counts .numbers)
+    too-short h = record { numbers = numbers-are; room = h; kept = refl }
 
-    pub written-out : {old new : List ℤ} {used : ℕ} → counts .numbers ≤ length old → Put (clauses ++ flat (blocks nodes (edgesOf edges) variables (atomsOf atoms))) old new used → WrittenOut φ old new counts
-    written-out h q =
+    pub written-out : {old mid new : List ℤ} {a b : ℕ} → counts .numbers ≤ length old → Put clauses old mid a → Put behind (rest a mid) new b → WrittenOut φ old (joined a mid new) counts
+    written-out h first second =
         let c = counted φ (lent .ranged) in
         record {
           variables = omega (arith, at-nodes .variables, v-is, c .variables);
           clauses = omega (arith, at-nodes .clauses, lent .clauses, c .clauses);
           numbers = numbers-are;
           room = omega (arith, numbers-are);
-          is = put-as whole-is q .is;
+          is = put-as whole-is (put-then first second) .is;
         }

@@ -23,7 +23,7 @@ use Rattle.plan.proofs.Walks.{le-or-lt}
 use Rattle.index.specs.Places.{Place}
 use Rattle.unit.specs.Onward.{Onward}
 use Rattle.unit.specs.Clauses.{Table, Ready, End, Begin, part, Says, Quiet, HasClauses, ClauseClash, Ends, Propagated}
-use Rattle.unit.specs.Queue.{Does, Applied, Waits, Pending, None, Leads, Tried}
+use Rattle.unit.specs.Queue.{Does, Applied, Waits, Pending, None, Leads, Tried, Known}
 use Rattle.unit.specs.declared.Said.{Said}
 use Rattle.unit.specs.declared.Said.the-variants.{Clash, Gives, Nothing}
 use Rattle.unit.specs.declared.Followed.{Followed}
@@ -130,6 +130,10 @@ pending-tried {cs} {v} {l} q small long t =
     let e : Pending cs None (t .before) q 0 0 = pending-start (omega (arith, t .shape .long)) long (λ C i. inr (inl (t .quiet C i))) in
     let f : LiteralFits (length (t .before)) l = subst (λ n. LiteralFits n l) (sym (t .shape .long)) (t .fits) in
     subst (λ x. Pending cs None x (set q 0 l) 0 1) (sym (t .is)) (pending-add (sized (t .shape)) f (t .not-true) (t .not-false) (omega arith) e (λ D i x. absurd x))
+
+-- nothing is known where the literal tried is 0
+pub known-nothing : (cs v : List ℤ) → Known cs v (pos 0)
+known-nothing cs v n = absurd (n refl)
 
 -- what a clause of the table says is done
 module _ (cs C v w q p : List ℤ) (end : ℕ) (i : List·Memᴰ C (clausesOf cs)) (s : Assigned (length v) v) (r : Followed) where

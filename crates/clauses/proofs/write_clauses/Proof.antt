@@ -1,5 +1,6 @@
+use mathlib.Core.Path.{_≡_}
 use native.Mathlib.Omega.{arith}
-use Rattle.clauses.proofs.Fronts.{room-rest, put-then}
+use Rattle.clauses.proofs.Fronts.{room-rest}
 use Rattle.clauses.proofs.Whole.{countable, low, room, too-short, written-out}
 use Rattle.clauses.proofs.write_clauses.Statement.{statement}
 use Rattle.clauses.proofs.write_clauses.Tie as tie
@@ -10,11 +11,25 @@ wide-requires c κs = omega arith
 wide-requires-2 : tie.Need-wide-requires-2
 wide-requires-2 c κs = omega arith
 
+-- the plan's numbers, widened
+module _ (c : tie.After-wide2) where
+  abbrev begin : tie.Start
+  begin = c .before .before .before .before
+
+  nodes-are : c .before .wide .result ≡ begin .args .plan .nodes
+  nodes-are = c .before .wide .ensures
+
+  variables-are : c .wide2 .result ≡ begin .args .plan .variables
+  variables-are = c .wide2 .ensures
+
 with-blocks-requires : tie.Need-with-blocks-requires
-with-blocks-requires c κs = countable (c .before .before .before .before .args .plan) (c .before .before .before .before .args .edges .now) (c .before .before .before .before .args .atoms .now) (c .before .before .before .before .args .clauses .now) (c .before .before .before .before .pre) _ _ (c .before .wide .ensures) (c .wide2 .ensures)
+with-blocks-requires c κs = countable (begin c .pre) (nodes-are c) (variables-are c)
 
 returns : tie.Need-returns
-returns c = too-short (c .before .before .before .before .before .before .args .plan) (c .before .before .before .before .before .before .args .edges .now) (c .before .before .before .before .before .before .args .atoms .now) (c .before .before .before .before .before .before .args .clauses .now) (c .before .before .before .before .before .before .pre) _ _ (c .before .before .before .wide .ensures) (c .before .before .wide2 .ensures) (c .before .with-blocks .result) (c .before .with-blocks .ensures) (c .before .before .before .before .before .before .args .out .now) (c .if1 .taken)
+returns c =
+    let d = c .before in
+    let w = d .before in
+    too-short (begin w .pre) (nodes-are w) (variables-are w) (d .with-blocks .ensures) (c .if1 .taken)
 
 put-own-requires : tie.Need-put-own-requires
 put-own-requires c κs = omega arith
@@ -31,14 +46,29 @@ part-put-blocks-start c = omega arith
 part-put-blocks-end : tie.Need-part-put-blocks-end
 part-put-blocks-end c = omega arith
 
+-- there is room, and the file's own clauses are put
+module _ (c : tie.After-put-own) where
+  abbrev fits : tie.Else1
+  fits = c .before .before
+
+  abbrev widened : tie.After-wide2
+  widened = fits .before .before
+
 put-blocks-requires : tie.Need-put-blocks-requires
-put-blocks-requires c κs = (room-rest _ _ (room (c .before .before .before .before .before .before .before .before .before .before .args .plan) (c .before .before .before .before .before .before .before .before .before .before .args .edges .now) (c .before .before .before .before .before .before .before .before .before .before .args .atoms .now) (c .before .before .before .before .before .before .before .before .before .before .args .clauses .now) (c .before .before .before .before .before .before .before .before .before .before .pre) _ _ (c .before .before .before .before .before .before .before .wide .ensures) (c .before .before .before .before .before .before .wide2 .ensures) (c .before .before .before .before .before .with-blocks .result) (c .before .before .before .before .before .with-blocks .ensures) (c .before .before .before .before .before .before .before .before .before .before .args .out .now) (c .before .before .before .before .if1 .left)) (c .before .before .put-own .ensures), low (c .before .before .before .before .before .before .before .before .before .before .args .plan) (c .before .before .before .before .before .before .before .before .before .before .args .edges .now) (c .before .before .before .before .before .before .before .before .before .before .args .atoms .now) (c .before .before .before .before .before .before .before .before .before .before .args .clauses .now) (c .before .before .before .before .before .before .before .before .before .before .pre) _ _ (c .before .before .before .before .before .before .before .wide .ensures) (c .before .before .before .before .before .before .wide2 .ensures))
+put-blocks-requires c κs =
+    let d = c .before .before in
+    let w = widened d in
+    let h = room (begin w .pre) (nodes-are w) (variables-are w) (fits d .before .with-blocks .ensures) (fits d .if1 .left) in
+    (room-rest _ _ h (d .put-own .ensures), low (begin w .pre) (nodes-are w) (variables-are w))
 
 same-length : tie.Need-same-length
 same-length c = omega arith
 
 returns-2 : tie.Need-returns-2
-returns-2 c = written-out (c .before .before .before .before .before .before .before .before .before .before .before .before .args .plan) (c .before .before .before .before .before .before .before .before .before .before .before .before .args .edges .now) (c .before .before .before .before .before .before .before .before .before .before .before .before .args .atoms .now) (c .before .before .before .before .before .before .before .before .before .before .before .before .args .clauses .now) (c .before .before .before .before .before .before .before .before .before .before .before .before .pre) _ _ (c .before .before .before .before .before .before .before .before .before .wide .ensures) (c .before .before .before .before .before .before .before .before .wide2 .ensures) (c .before .before .before .before .before .before .before .with-blocks .result) (c .before .before .before .before .before .before .before .with-blocks .ensures) (c .before .before .before .before .before .before .if1 .left) (put-then (c .before .before .before .before .put-own .ensures) (c .before .put-blocks .ensures))
+returns-2 c =
+    let d = c .before .before .before .before in
+    let w = widened d in
+    written-out (begin w .pre) (nodes-are w) (variables-are w) (fits d .before .with-blocks .ensures) (fits d .if1 .left) (d .put-own .ensures) (c .before .put-blocks .ensures)
 
 pub write-clauses-spec : {M : Type 1} → statement M
 write-clauses-spec =

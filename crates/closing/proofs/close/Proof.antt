@@ -1,5 +1,5 @@
-use mathlib.Core.Path.{refl}
 use borrow.Author.Needs.{needs}
+use Rattle.unit.proofs.Following.{known-nothing}
 use Rattle.closing.proofs.Lending.{lent-indexable}
 use Rattle.closing.proofs.close.Statement.{statement}
 use Rattle.closing.proofs.close.Tie as tie
@@ -10,7 +10,7 @@ index-of-requires c κs = let b = c .before .before in lent-indexable (b .args .
 close-after-requires : tie.Need-close-after-requires
 close-after-requires c κs =
     let b = c .before .before .before .before .before .before in
-    (b .pre .0, (c .before .before .before .index-of .ensures, (b .pre .1, λ n. absurd (n refl))))
+    (b .pre .0, (c .before .before .before .index-of .ensures, (b .pre .1, known-nothing _ _)))
 
 same-length : tie.Need-same-length
 same-length c = search needs

@@ -1,8 +1,9 @@
-use mathlib.Core.Path.{subst}
-use Rattle.plan.specs.Meaning.{HasTrue}
+use mathlib.Core.Path.{_≡_, subst}
+use Rattle.plan.specs.Meaning.{Atom, HasTrue}
 use Rattle.plan.specs.Tables.{edgesOf, atomsOf, clausesOf}
 use Rattle.walk.proofs.Lending.{lent-inside, lent-placed}
 use Rattle.judge.specs.Verdicts.{FirstIs, RightIn}
+use Rattle.judge.specs.declared.First.{First}
 use Rattle.judge.proofs.Lending.{full-assigned, few, lent-clauses, lent-atoms}
 use borrow.Author.Needs.{needs}
 use Rattle.judge.proofs.judge.Statement.{statement}
@@ -10,24 +11,41 @@ use Rattle.judge.proofs.judge.Tie as tie
 
 first-untrue-requires : tie.Need-first-untrue-requires
 first-untrue-requires c κs =
-    let l = c .before .before .pre .0 in
-    let f = c .before .before .pre .1 in
-    (full-assigned _ _ f, (few l _ (f .long), lent-clauses l _ (f .long)))
+    let b = c .before .before in
+    (full-assigned _ _ (b .pre .1), (few (b .pre .0) _ (b .pre .1 .long), lent-clauses (b .pre .0) _ (b .pre .1 .long)))
+
+-- the first clause without a true literal
+module _ (c : tie.After-first-untrue) where
+  abbrev begin : tie.Start
+  begin = c .before .before .before
+
+  clause-is : (r : First) → c .first-untrue .result ≡ r → FirstIs (HasTrue (begin .args .assignment .now)) (clausesOf (begin .args .clauses .now)) r
+  clause-is r e = subst (FirstIs (HasTrue (begin .args .assignment .now)) (clausesOf (begin .args .clauses .now))) e (c .first-untrue .ensures)
 
 enum-known-clause : tie.Need-enum-known-clause
 enum-known-clause c = search needs
 
 returns : tie.Need-returns
-returns c = subst (FirstIs (HasTrue (c .before .before .before .before .before .before .args .assignment .now)) (clausesOf (c .before .before .before .before .before .before .args .clauses .now))) (c .before .clause .given .1) (c .before .before .before .first-untrue .ensures)
+returns c = clause-is (c .before .before .before) _ (c .before .clause .given .1)
 
 enum-told : tie.Need-enum-told
 enum-told c = search needs
 
 first-wrong-requires : tie.Need-first-wrong-requires
 first-wrong-requires c κs =
-    let l = c .before .before .before .before .before .pre .0 in
-    let f = c .before .before .before .before .before .pre .1 in
-    (lent-inside l, (lent-placed l _ (f .long), (lent-atoms l _ (f .long), l .atoms)))
+    let b = begin (c .before .before) in
+    (lent-inside (b .pre .0), (lent-placed (b .pre .0) _ (b .pre .1 .long), (lent-atoms (b .pre .0) _ (b .pre .1 .long), b .pre .0 .atoms)))
+
+-- the first wrong atom
+module _ (c : tie.After-first-wrong) where
+  abbrev judged : tie.After-first-untrue
+  judged = c .before .before .before
+
+  abbrev Right : Atom → Type 0
+  Right = RightIn (edgesOf (begin judged .args .edges .now)) (begin judged .args .assignment .now)
+
+  atom-is : (r : First) → c .first-wrong .result ≡ r → FirstIs Right (atomsOf (begin judged .args .atoms .now)) r
+  atom-is r e = subst (FirstIs Right (atomsOf (begin judged .args .atoms .now))) e (c .first-wrong .ensures)
 
 enum-known-atom : tie.Need-enum-known-atom
 enum-known-atom c = search needs
@@ -36,17 +54,12 @@ enum-told-2 : tie.Need-enum-told-2
 enum-told-2 c = search needs
 
 returns-2 : tie.Need-returns-2
-returns-2 c = (
-  subst (FirstIs (HasTrue (c .before .before .before .before .before .before .before .before .before .args .assignment .now)) (clausesOf (c .before .before .before .before .before .before .before .before .before .args .clauses .now))) (c .before .before .before .before .enum-told .given .1) (c .before .before .before .before .before .before .first-untrue .ensures),
-  subst (FirstIs (RightIn (edgesOf (c .before .before .before .before .before .before .before .before .before .args .edges .now)) (c .before .before .before .before .before .before .before .before .before .args .assignment .now)) (atomsOf (c .before .before .before .before .before .before .before .before .before .args .atoms .now))) (c .before .atom .given .1) (c .before .before .before .first-wrong .ensures),
-)
+returns-2 c = let d = c .before .before .before in (clause-is (judged d) _ (d .before .enum-told .given .1), atom-is d _ (c .before .atom .given .1))
 
 returns-3 : tie.Need-returns-3
-returns-3 c = record {
-  full = c .before .before .before .before .before .before .before .before .pre .1;
-  clause = subst (FirstIs (HasTrue (c .before .before .before .before .before .before .before .before .args .assignment .now)) (clausesOf (c .before .before .before .before .before .before .before .before .args .clauses .now))) (c .before .before .before .enum-told .given .1) (c .before .before .before .before .before .first-untrue .ensures);
-  atom = subst (FirstIs (RightIn (edgesOf (c .before .before .before .before .before .before .before .before .args .edges .now)) (c .before .before .before .before .before .before .before .before .args .assignment .now)) (atomsOf (c .before .before .before .before .before .before .before .before .args .atoms .now))) (c .enum-told2 .given .1) (c .before .before .first-wrong .ensures);
-}
+returns-3 c =
+    let d = c .before .before in
+    record { full = begin (judged d) .pre .1; clause = clause-is (judged d) _ (d .before .enum-told .given .1); atom = atom-is d _ (c .enum-told2 .given .1) }
 
 pub judge-spec : {M : Type 1} → statement M
 judge-spec =

@@ -1,8 +1,13 @@
-use mathlib.Core.Path.{sym, ap}
-use Prim.Native.Nat.{_+_}
+use mathlib.Core.Path.{_≡_, sym, ap}
+use mathlib.Core.List.{List, _++_}
+use Prim.Native.Nat.{ℕ, _+_, _*_, _<_}
 use native.Mathlib.Omega.{arith}
+use lib.IntN.{ℤ}
+use Rattle.plan.specs.Meaning.{Edge}
 use Rattle.plan.specs.Tables.{edgesOf}
-use Rattle.clauses.proofs.Fronts.{room-first, room-rest, room-as, put-as, put-then}
+use Rattle.clauses.specs.Front.{Room, Put}
+use Rattle.clauses.specs.Rows.{startRow, levelsRow, endRow, blockRow}
+use Rattle.clauses.proofs.Fronts.{joined, room-first, room-rest, room-as, put-as, put-then}
 use Rattle.clauses.proofs.Rows.{block-row, end-low}
 use Rattle.clauses.proofs.block.put_block.Statement.{statement}
 use Rattle.clauses.proofs.block.put_block.Tie as tie
@@ -19,6 +24,35 @@ wide-requires-3 c κs = omega arith
 edge-count-requires : tie.Need-edge-count-requires
 edge-count-requires c κs = omega arith
 
+-- the atom's numbers and the count of the edges are read
+module _ (c : tie.After-edge-count) where
+  abbrev begin : tie.Start
+  begin = c .before .before .before .before .before
+
+  abbrev es : List Edge
+  es = edgesOf (begin .args .edges .now)
+
+  -- the start and the levels
+  abbrev front : List ℤ
+  front = let t = begin .args in startRow (t .nodes) (c .before .before .before .wide .result) (t .base + 1) ++ levelsRow es (t .nodes) (t .base) (t .top)
+
+  abbrev ending : List ℤ
+  ending = let t = begin .args in endRow (c .before .wide3 .result) (t .base + 1 + t .top * (t .nodes + c .edge-count .result) + c .before .before .wide2 .result)
+
+  abbrev whole : List ℤ
+  whole = let t = begin .args in blockRow (t .nodes) es (t .base) (t .top) (t .atom .from) (t .atom .to) (t .atom .variable)
+
+  row : front ++ ending ≡ whole
+  row =
+      block-row (begin .args .nodes) es (begin .args .base) (begin .args .top) _ _ _ _ _ _ _ (ap (λ m. begin .args .nodes + m) (c .edge-count .ensures))
+      (c .before .before .before .wide .ensures) (c .before .before .wide2 .ensures) (c .before .wide3 .ensures)
+
+  room : Room (front ++ ending) (begin .args .out .now)
+  room = room-as (sym row) (begin .pre .0)
+
+  low : begin .args .base + 1 + begin .args .top * (begin .args .nodes + c .edge-count .result) < 1073741824
+  low = end-low (begin .pre .1) (c .edge-count .ensures)
+
 add-step : tie.Need-add-step
 add-step c = omega arith
 
@@ -26,7 +60,7 @@ add-put-start : tie.Need-add-put-start
 add-put-start c = omega arith
 
 put-start-requires : tie.Need-put-start-requires
-put-start-requires c κs = (room-first _ _ (room-first _ _ (room-as (sym (block-row (c .before .before .before .before .before .before .args .nodes) (edgesOf (c .before .before .before .before .before .before .args .edges .now)) (c .before .before .before .before .before .before .args .base) (c .before .before .before .before .before .before .args .top) _ _ _ _ _ _ _ (ap (λ m. c .before .before .before .before .before .before .args .nodes + m) (c .before .edge-count .ensures)) (c .before .before .before .before .wide .ensures) (c .before .before .before .wide2 .ensures) (c .before .before .wide3 .ensures))) (c .before .before .before .before .before .before .pre .0))), omega arith)
+put-start-requires c κs = (room-first _ _ (room-first _ _ (room (c .before))), omega arith)
 
 mul-put-levels : tie.Need-mul-put-levels
 mul-put-levels c = omega arith
@@ -41,7 +75,23 @@ part-put-levels-end : tie.Need-part-put-levels-end
 part-put-levels-end c = omega arith
 
 put-levels-requires : tie.Need-put-levels-requires
-put-levels-requires c κs = (room-rest _ _ (room-first _ _ (room-as (sym (block-row (c .before .before .before .before .before .before .before .before .before .args .nodes) (edgesOf (c .before .before .before .before .before .before .before .before .before .args .edges .now)) (c .before .before .before .before .before .before .before .before .before .args .base) (c .before .before .before .before .before .before .before .before .before .args .top) _ _ _ _ _ _ _ (ap (λ m. c .before .before .before .before .before .before .before .before .before .args .nodes + m) (c .before .before .before .before .edge-count .ensures)) (c .before .before .before .before .before .before .before .wide .ensures) (c .before .before .before .before .before .before .wide2 .ensures) (c .before .before .before .before .before .wide3 .ensures))) (c .before .before .before .before .before .before .before .before .before .pre .0))) (c .before .before .put-start .ensures), c .before .before .before .before .before .before .before .before .before .pre .1)
+put-levels-requires c κs =
+    let d = c .before .before .before .before in
+    (room-rest _ _ (room-first _ _ (room d)) (c .before .before .put-start .ensures), begin d .pre .1)
+
+-- the start and the levels stand
+module _ (c : tie.After-put-levels) where
+  abbrev started : tie.After-put-start
+  started = c .before .before .before
+
+  abbrev read : tie.After-edge-count
+  read = started .before .before
+
+  abbrev start : ℕ
+  start = started .put-start .result
+
+  both : Put (front read) (begin read .args .out .now) (joined start (started .put-start .last .0) (c .put-levels .last .0)) (start + c .put-levels .result)
+  both = put-then (started .put-start .ensures) (c .put-levels .ensures)
 
 add-used : tie.Need-add-used
 add-used c = omega arith
@@ -62,16 +112,16 @@ add-put-end : tie.Need-add-put-end
 add-put-end c = omega arith
 
 mul-put-end-2 : tie.Need-mul-put-end-2
-mul-put-end-2 c = omega (arith, end-low (c .before .before .before .before .before .before .before .before .before .before .before .before .pre .1) (c .before .before .before .before .before .before .before .edge-count .ensures))
+mul-put-end-2 c = omega (arith, low (read (c .before .before)))
 
 add-put-end-2 : tie.Need-add-put-end-2
-add-put-end-2 c = omega (arith, end-low (c .before .before .before .before .before .before .before .before .before .before .before .before .pre .1) (c .before .before .before .before .before .before .before .edge-count .ensures))
+add-put-end-2 c = omega (arith, low (read (c .before .before)))
 
 add-put-end-3 : tie.Need-add-put-end-3
-add-put-end-3 c = omega (arith, end-low (c .before .before .before .before .before .before .before .before .before .before .before .before .pre .1) (c .before .before .before .before .before .before .before .edge-count .ensures))
+add-put-end-3 c = omega (arith, low (read (c .before .before)))
 
 put-end-requires : tie.Need-put-end-requires
-put-end-requires c κs = (room-rest _ _ (room-as (sym (block-row (c .before .before .before .before .before .before .before .before .before .before .before .before .args .nodes) (edgesOf (c .before .before .before .before .before .before .before .before .before .before .before .before .args .edges .now)) (c .before .before .before .before .before .before .before .before .before .before .before .before .args .base) (c .before .before .before .before .before .before .before .before .before .before .before .before .args .top) _ _ _ _ _ _ _ (ap (λ m. c .before .before .before .before .before .before .before .before .before .before .before .before .args .nodes + m) (c .before .before .before .before .before .before .before .edge-count .ensures)) (c .before .before .before .before .before .before .before .before .before .before .wide .ensures) (c .before .before .before .before .before .before .before .before .before .wide2 .ensures) (c .before .before .before .before .before .before .before .before .wide3 .ensures))) (c .before .before .before .before .before .before .before .before .before .before .before .before .pre .0)) (put-then (c .before .before .before .before .before .put-start .ensures) (c .before .before .put-levels .ensures)), omega (arith, end-low (c .before .before .before .before .before .before .before .before .before .before .before .before .pre .1) (c .before .before .before .before .before .before .before .edge-count .ensures)))
+put-end-requires c κs = (room-rest _ _ (room (read (c .before .before))) (both (c .before .before)), omega (arith, low (read (c .before .before))))
 
 add-result : tie.Need-add-result
 add-result c = omega arith
@@ -80,7 +130,7 @@ same-length : tie.Need-same-length
 same-length c = omega arith
 
 returns : tie.Need-returns
-returns c = put-as (block-row (c .before .before .before .before .before .before .before .before .before .before .before .before .before .before .args .nodes) (edgesOf (c .before .before .before .before .before .before .before .before .before .before .before .before .before .before .args .edges .now)) (c .before .before .before .before .before .before .before .before .before .before .before .before .before .before .args .base) (c .before .before .before .before .before .before .before .before .before .before .before .before .before .before .args .top) _ _ _ _ _ _ _ (ap (λ m. c .before .before .before .before .before .before .before .before .before .before .before .before .before .before .args .nodes + m) (c .before .before .before .before .before .before .before .before .before .edge-count .ensures)) (c .before .before .before .before .before .before .before .before .before .before .before .before .wide .ensures) (c .before .before .before .before .before .before .before .before .before .before .before .wide2 .ensures) (c .before .before .before .before .before .before .before .before .before .before .wide3 .ensures)) (put-then (put-then (c .before .before .before .before .before .before .before .put-start .ensures) (c .before .before .before .before .put-levels .ensures)) (c .before .put-end .ensures))
+returns c = let d = c .before .before .before .before in put-as (row (read d)) (put-then (both d) (c .before .put-end .ensures))
 
 pub put-block-spec : {M : Type 1} → statement M
 put-block-spec =

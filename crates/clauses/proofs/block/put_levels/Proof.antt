@@ -1,7 +1,11 @@
 use mathlib.Core.Path.{_≡_, sym, ap}
-use Prim.Native.Nat.{_+_, _-_}
+use mathlib.Core.List.{List}
+use Prim.Native.Nat.{ℕ, _+_, _-_, _<_}
 use native.Mathlib.Omega.{arith}
+use lib.ListN.{length}
+use Rattle.plan.specs.Meaning.{Edge}
 use Rattle.plan.specs.Tables.{edgesOf}
+use Rattle.clauses.specs.declared.block.Level.{Level}
 use Rattle.clauses.specs.Rows.{levelRow, levelsRow, firstAt, levelFrom}
 use Rattle.clauses.proofs.Filling.{Filling, filling-start, filling-room, filling-turn, filling-end}
 use Rattle.clauses.proofs.Fronts.{rest-length, put-as, room-as}
@@ -10,7 +14,9 @@ use Rattle.clauses.proofs.block.put_levels.Statement.{statement}
 use Rattle.clauses.proofs.block.put_levels.Tie as tie
 
 abbrev Inv-loop : tie.InvT-loop
-Inv-loop out₀ edges nodes base top step first₀ used₀ i₀ out first used i = Filling (λ j. levelRow (edgesOf edges) nodes (levelFrom (edgesOf edges) nodes (firstAt (edgesOf edges) nodes base j))) top out₀ out used i × (first ≡ firstAt (edgesOf edges) nodes base i)
+Inv-loop out₀ edges nodes base top step first₀ used₀ i₀ out first used i =
+    Filling (λ j. levelRow (edgesOf edges) nodes (levelFrom (edgesOf edges) nodes (firstAt (edgesOf edges) nodes base j))) top out₀ out used i
+    × (first ≡ firstAt (edgesOf edges) nodes base i)
 
 abbrev μ-loop : tie.MeasureT-loop
 μ-loop out₀ edges nodes base top step first₀ used₀ i₀ out first used i = top - i
@@ -28,11 +34,43 @@ loop-holds : tie.Need-loop-holds Inv-loop μ-loop
 unfolding levelsRow
 loop-holds c = (filling-start _ _ _ (c .before .before .pre .0), omega arith)
 
+-- the next level
+module _ (c : tie.In-loop Inv-loop μ-loop) where
+  abbrev turn : tie.At-loop Inv-loop μ-loop
+  turn = c .before
+
+  abbrev begin : tie.Start Inv-loop μ-loop
+  begin = turn .before .before .before
+
+  abbrev es : List Edge
+  es = edgesOf (begin .args .edges .now)
+
+  abbrev nodes : ℕ
+  nodes = begin .args .nodes
+
+  abbrev first : ℕ
+  first = turn .loop .first
+
+  abbrev step : ℕ
+  step = nodes + turn .before .edge-count .result
+
+  step-is : step ≡ nodes + length es
+  step-is = ap (λ m. nodes + m) (turn .before .edge-count .ensures)
+
+  abbrev level : Level
+  level = record { nodes = first; edges = first + nodes; next = first + step }
+
+  row : levelRow es nodes level ≡ levelRow es nodes (levelFrom es nodes (firstAt es nodes (begin .args .base) (turn .loop .i)))
+  row = level-row es nodes (begin .args .base) (turn .loop .i) first step (turn .loop .inv .1) step-is
+
+  low : first + step < 1073741824
+  low = level-low es nodes (begin .args .base) (turn .loop .i) first step (turn .loop .inv .1) step-is (begin .args .top) (begin .pre .1) (c .loop-test .taken)
+
 add-put-level : tie.Need-add-put-level Inv-loop μ-loop
-add-put-level c = omega (arith, level-low (edgesOf (c .before .before .before .before .args .edges .now)) (c .before .before .before .before .args .nodes) (c .before .before .before .before .args .base) (c .before .loop .i) (c .before .loop .first) _ (c .before .loop .inv .1) (ap (λ m. c .before .before .before .before .args .nodes + m) (c .before .before .edge-count .ensures)) (c .before .before .before .before .args .top) (c .before .before .before .before .pre .1) (c .loop-test .taken))
+add-put-level c = omega (arith, low c)
 
 add-put-level-2 : tie.Need-add-put-level-2 Inv-loop μ-loop
-add-put-level-2 c = omega (arith, level-low (edgesOf (c .before .before .before .before .args .edges .now)) (c .before .before .before .before .args .nodes) (c .before .before .before .before .args .base) (c .before .loop .i) (c .before .loop .first) _ (c .before .loop .inv .1) (ap (λ m. c .before .before .before .before .args .nodes + m) (c .before .before .edge-count .ensures)) (c .before .before .before .before .args .top) (c .before .before .before .before .pre .1) (c .loop-test .taken))
+add-put-level-2 c = omega (arith, low c)
 
 mul-put-level : tie.Need-mul-put-level Inv-loop μ-loop
 mul-put-level c = omega arith
@@ -47,15 +85,13 @@ part-put-level-end : tie.Need-part-put-level-end Inv-loop μ-loop
 part-put-level-end c = omega arith
 
 put-level-requires : tie.Need-put-level-requires Inv-loop μ-loop
-put-level-requires c κs =
-    let low = level-low (edgesOf (c .before .before .before .before .before .args .edges .now)) (c .before .before .before .before .before .args .nodes) (c .before .before .before .before .before .args .base) (c .before .before .loop .i) (c .before .before .loop .first) _ (c .before .before .loop .inv .1) (ap (λ m. c .before .before .before .before .before .args .nodes + m) (c .before .before .before .edge-count .ensures)) (c .before .before .before .before .before .args .top) (c .before .before .before .before .before .pre .1) (c .before .loop-test .taken) in
-    (room-as (sym (level-row (edgesOf (c .before .before .before .before .before .args .edges .now)) (c .before .before .before .before .before .args .nodes) (c .before .before .before .before .before .args .base) (c .before .before .loop .i) (c .before .before .loop .first) _ (c .before .before .loop .inv .1) (ap (λ m. c .before .before .before .before .before .args .nodes + m) (c .before .before .before .edge-count .ensures)))) (filling-room (c .before .before .loop .inv .0) (c .before .loop-test .taken)), omega arith)
+put-level-requires c κs = let d = c .before in (room-as (sym (row d)) (filling-room (turn d .loop .inv .0) (d .loop-test .taken)), omega (arith, low d))
 
 add-used : tie.Need-add-used Inv-loop μ-loop
-add-used c = omega (arith, rest-length (c .before .before .before .before .loop .used) (c .before .before .before .before .loop .out))
+add-used c = let t = turn (c .before .before .before) in omega (arith, rest-length (t .loop .used) (t .loop .out))
 
 add-first-2 : tie.Need-add-first-2 Inv-loop μ-loop
-add-first-2 c = omega (arith, level-low (edgesOf (c .before .before .before .before .before .before .before .args .edges .now)) (c .before .before .before .before .before .before .before .args .nodes) (c .before .before .before .before .before .before .before .args .base) (c .before .before .before .before .loop .i) (c .before .before .before .before .loop .first) _ (c .before .before .before .before .loop .inv .1) (ap (λ m. c .before .before .before .before .before .before .before .args .nodes + m) (c .before .before .before .before .before .edge-count .ensures)) (c .before .before .before .before .before .before .before .args .top) (c .before .before .before .before .before .before .before .pre .1) (c .before .before .before .loop-test .taken))
+add-first-2 c = omega (arith, low (c .before .before .before))
 
 add-i : tie.Need-add-i Inv-loop μ-loop
 add-i c = omega arith
@@ -64,7 +100,9 @@ loop-less : tie.Need-loop-less Inv-loop μ-loop
 loop-less c = omega arith
 
 loop-again : tie.Need-loop-again Inv-loop μ-loop
-loop-again c = (filling-turn (c .before .before .before .before .loop .inv .0) (c .before .before .before .loop-test .taken) (put-as (level-row (edgesOf (c .before .before .before .before .before .before .before .args .edges .now)) (c .before .before .before .before .before .before .before .args .nodes) (c .before .before .before .before .before .before .before .args .base) (c .before .before .before .before .loop .i) (c .before .before .before .before .loop .first) _ (c .before .before .before .before .loop .inv .1) (ap (λ m. c .before .before .before .before .before .before .before .args .nodes + m) (c .before .before .before .before .before .edge-count .ensures))) (c .before .put-level .ensures)), omega (arith, c .before .before .before .before .before .edge-count .ensures))
+loop-again c =
+    let d = c .before .before .before in
+    (filling-turn (turn d .loop .inv .0) (d .loop-test .taken) (put-as (row d) (c .before .put-level .ensures)), omega (arith, turn d .before .edge-count .ensures))
 
 same-length : tie.Need-same-length Inv-loop μ-loop
 same-length c = omega arith
