@@ -10,21 +10,21 @@ ghost use Rattle.plan.specs.Search.{Assigned, CloseIs};
 ghost use Rattle.plan.specs.Meaning.{trueIn, atom};
 ghost use Rattle.plan.specs.Tables.{edgesOf, atomsOf, clausesOf, atomOf, planOf, Lent};
 ghost use Rattle.walk.specs.Hopping.{Inside, Placed, hopsOf};
-ghost use Rattle.index.specs.Places.{Indexable, Indexed};
+ghost use Rattle.index.specs.Places.{Indexed};
 ghost use Rattle.unit.specs.Clauses.{Ready, AllQuiet};
 ghost use Rattle.unit.specs.Queue.{BeginsWith, Since, Known};
 ghost use Rattle.closing.specs.Closed.{closedOf, stepOf};
 ghost use Rattle.closing.specs.Atoms.{AtomFits, AtomsReady, givenBy, Gets, Told, Given, Looked, ByHops, BySets, ByEdges, AllLooked, afterSet};
 ghost use Rattle.closing.specs.Rounds.{Unchanged, PassedOn, Round};
 
-// What a look at clauses or atoms does to an assignment.
+// What a look at the atoms, or a round, does to an assignment.
 pub enum Step {
     Clash,
     Set,
     Still,
 }
 
-// The same, with the place in the table at which to go on.
+// The same, with the number of the atom at which to go on.
 pub struct Look {
     pub step: Step,
     pub next: usize,
@@ -296,7 +296,6 @@ fn pass_on(
     values: &mut [i8],
 ) -> Step
     requires { ⌜ Ready (now clauses) (now values) ⌝ }
-    requires { ⌜ Indexable (now clauses) ⌝ }
     requires { ⌜ Indexed (now clauses) (now places) ⌝ }
     requires { ⌜ Since (now clauses) (now before) (now values) ⌝ }
     requires { ⌜ Placed (edgesOf (now edges)) (length (now values)) ⌝ }

@@ -12,13 +12,13 @@ use lib.Seq.{getD-set-same, getD-set-other}
 use lib.IntN.{ℤ, pos, negsuc, natAbs, ℤ-discrete}
 use lib.Signed.{ltZ}
 use borrow.Author.Tests.{ltb-true}
-use Rattle.index.specs.Places.{Place, slot, Indexable, Indexed}
+use Rattle.index.specs.Places.{Place, slot, slotBehind, Indexable, Indexed}
 
 pub record Built (cs : List ℤ) (at : ℕ) (places : List ℕ) : Type 0 where
   pub inside : at ≤ length cs
   pub room : length places ≡ 6145
   pub first : (l : ℤ) → natAbs l ≤ 512 → Place cs l at (getD places (slot l) 0)
-  pub next : (k : ℕ) → at ≤ k → k < length cs → Place cs (getD cs k (pos 0)) (k + 1) (getD places (1025 + k) 0)
+  pub next : (k : ℕ) → at ≤ k → k < length cs → Place cs (getD cs k (pos 0)) (k + 1) (getD places (slotBehind k) 0)
 
 -- where a number's first place is kept, as the code finds it
 pub slot-off : (l : ℤ) (v : ℕ) → v ≡ natAbs l → ltZ l (pos 0) ≡ true → 512 + v ≡ slot l
@@ -97,5 +97,5 @@ module _ (cs : List ℤ) (places : List ℕ) (at : ℕ) (n : Indexable cs) (h : 
     next = λ k p q. next-after k p q (ℕ-discrete k at);
   }
 
-pub built-all : {cs : List ℤ} {places : List ℕ} → Built cs 0 places → Indexed cs places
-built-all b = record { first = b .first; next = λ k h. b .next k (omega arith) h }
+pub built-all : {cs : List ℤ} {places : List ℕ} → Indexable cs → Built cs 0 places → Indexed cs places
+built-all s b = record { short = s .short; first = b .first; next = λ k h. b .next k (omega arith) h }

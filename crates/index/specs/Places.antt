@@ -1,4 +1,4 @@
--- Where the numbers of a clause table stand: docs/LAYOUT.md, "The index".
+-- Where the numbers of a clause table stand: docs/LAYOUT.md, "The index of the clauses".
 -- Assumes nothing.
 use mathlib.Core.Path.{_≡_}
 use mathlib.Core.Logic.{_≢_}
@@ -19,6 +19,10 @@ abbrev pub slot : ℤ → ℕ
 slot (pos v) = v
 slot (negsuc v) = 513 + v
 
+-- Where it keeps, behind these, the next place that holds the same number as place k.
+abbrev pub slotBehind : ℕ → ℕ
+slotBehind k = 1025 + k
+
 -- A table that an index has room for: its numbers are 0 and literals.
 pub record Indexable (cs : List ℤ) : Type 0 where
   pub short : length cs ≤ 5120
@@ -26,5 +30,6 @@ pub record Indexable (cs : List ℤ) : Type 0 where
 
 -- The index of a table: each number's first place and, for each place, the next one that holds the same number.
 pub record Indexed (cs : List ℤ) (index : List ℕ) : Type 0 where
+  pub short : length cs ≤ 5120
   pub first : (l : ℤ) → natAbs l ≤ 512 → Place cs l 0 (getD index (slot l) 0)
-  pub next : (k : ℕ) → k < length cs → Place cs (getD cs k (pos 0)) (k + 1) (getD index (1025 + k) 0)
+  pub next : (k : ℕ) → k < length cs → Place cs (getD cs k (pos 0)) (k + 1) (getD index (slotBehind k) 0)

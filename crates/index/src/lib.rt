@@ -1,10 +1,10 @@
 use plan::Assignment;
 use plan::Clause;
 ghost use mathlib.Core.Path.{_≡_};
-ghost use Prim.Native.Nat.{_+_, _<_, _≤_};
+ghost use Prim.Native.Nat.{_<_, _≤_};
 ghost use lib.IntN.{natAbs};
 ghost use lib.ListN.{getD};
-ghost use Rattle.index.specs.Places.{slot, Indexable, Indexed};
+ghost use Rattle.index.specs.Places.{slot, slotBehind, Indexable, Indexed};
 
 // Where the numbers of a clause table stand: each number's first place and, for each place, the next one that holds the same number.
 pub struct Index {
@@ -59,7 +59,7 @@ pub fn first_place(places: &[u16; 6145], number: i16) -> usize
 // The next place that holds the same number as this one.
 pub fn next_place(places: &[u16; 6145], place: usize) -> usize
     requires { ⌜ place < 5120 ⌝ }
-    ensures { λ r. ⌜ r ≡ getD (now (places .entry)) (1025 + place) 0 ⌝ }
+    ensures { λ r. ⌜ r ≡ getD (now (places .entry)) (slotBehind place) 0 ⌝ }
 {
     plan::wide(places[Index::FIRSTS + place])
 }

@@ -25,9 +25,9 @@ use Rattle.unit.specs.Queue.{Waits, Pending, None, Above, Since, literal
 use Rattle.unit.proofs.Calm.{quiet-or-false}
 
 -- the literal of a place and its value, as the code makes it
-pub literal-atf : (i : ℕ) (x : ℤ) → ltZ x (pos 0) ≡ true → off (i + 1) ≡ literalAt i x
-literal-atf i (pos n) e = let h : n < 0 = ltb-true n 0 e in absurd (omega arith)
-literal-atf i (negsuc n) e = refl
+pub literal-off : (i : ℕ) (x : ℤ) → ltZ x (pos 0) ≡ true → off (i + 1) ≡ literalAt i x
+literal-off i (pos n) e = let h : n < 0 = ltb-true n 0 e in absurd (omega arith)
+literal-off i (negsuc n) e = refl
 
 pub literal-on : (i : ℕ) (x : ℤ) → ltZ x (pos 0) ≡ false → on (i + 1) ≡ literalAt i x
 literal-on i (pos n) e = refl

@@ -13,7 +13,7 @@ use Rattle.plan.specs.Ranged.{LiteralFits}
 use Rattle.plan.specs.Search.{Assigned, opens}
 use Rattle.plan.specs.Tables.{clausesOf}
 use Rattle.unit.specs.Onward.{Onward}
-use Rattle.unit.specs.Clauses.{End, part, Says, Quiet, AllQuiet, HasClauses, ClauseClash}
+use Rattle.unit.specs.Clauses.{SaysAt, Quiet, AllQuiet, HasClauses, ClauseClash}
 use Rattle.unit.specs.declared.Said.{Said}
 use Rattle.unit.specs.declared.Said.the-variants.{Clash, Gives, Nothing}
 use Rattle.unit.specs.declared.Followed.{Followed}
@@ -27,7 +27,7 @@ Does v w q p end Nothing r = (r .clash ≡ false) × (r .end ≡ end) × (w ≡ 
 -- A look at the clause that begins at `at`.
 pub record Applied (cs : List ℤ) (at : ℕ) (v w q p : List ℤ) (end : ℕ) (r : Followed) : Type 0 where
   pub said : Said
-  pub says : (e : ℕ) → End cs at e → Says v (part cs at e) said
+  pub says : SaysAt cs at v said
   pub does : Does v w q p end said r
 
 -- A literal of the clause became false by one that waits in the queue, at a place from `head` up to `end`.

@@ -4,7 +4,7 @@ ghost use lib.IntN.{pos};
 ghost use lib.ListN.{length, getD};
 ghost use Rattle.plan.specs.Ranged.{LiteralFits};
 ghost use Rattle.plan.specs.Search.{Assigned, opens};
-ghost use Rattle.index.specs.Places.{Indexable, Indexed};
+ghost use Rattle.index.specs.Places.{Indexed};
 ghost use Rattle.unit.specs.Clauses.{Ready, Stops, Stop, End, Begin, SaysAt, Propagated};
 ghost use Rattle.unit.specs.Queue.{Applied, Pending, None, Leads, Known, Above, Since, literalAt, Queued};
 
@@ -168,7 +168,6 @@ fn follow(
     tail: usize,
 ) -> Followed
     requires { ⌜ Ready (now clauses) (now values) ⌝ }
-    requires { ⌜ Indexable (now clauses) ⌝ }
     requires { ⌜ Indexed (now clauses) (now places) ⌝ }
     requires { ⌜ head < tail ⌝ }
     requires { ⌜ Pending (now clauses) None (now values) (now queue) head tail ⌝ }
@@ -199,7 +198,6 @@ fn follow_all(
     tail: usize,
 ) -> bool
     requires { ⌜ Ready (now clauses) (now values) ⌝ }
-    requires { ⌜ Indexable (now clauses) ⌝ }
     requires { ⌜ Indexed (now clauses) (now places) ⌝ }
     requires { ⌜ Pending (now clauses) None (now values) (now queue) 0 tail ⌝ }
     ensures { λ r. ⌜ Propagated (now (clauses .entry)) (now (values .entry)) (now (values .exit)) r ⌝ }
@@ -220,7 +218,6 @@ fn follow_all(
 // Adds all that the clauses give. `tried` is the literal that was added to a closed set, or 0 where nothing is known. True: a clash.
 pub fn propagate(clauses: &[i16], places: &[u16; 6145], tried: i16, values: &mut [i8]) -> bool
     requires { ⌜ Ready (now clauses) (now values) ⌝ }
-    requires { ⌜ Indexable (now clauses) ⌝ }
     requires { ⌜ Indexed (now clauses) (now places) ⌝ }
     requires { ⌜ Known (now clauses) (now values) tried ⌝ }
     ensures { λ r. ⌜ Propagated (now (clauses .entry)) (now (values .entry)) (now (values .exit)) r ⌝ }
@@ -278,7 +275,6 @@ pub fn propagate_changes(
     values: &mut [i8],
 ) -> bool
     requires { ⌜ Ready (now clauses) (now values) ⌝ }
-    requires { ⌜ Indexable (now clauses) ⌝ }
     requires { ⌜ Indexed (now clauses) (now places) ⌝ }
     requires { ⌜ Since (now clauses) (now before) (now values) ⌝ }
     ensures { λ r. ⌜ Propagated (now (clauses .entry)) (now (values .entry)) (now (values .exit)) r ⌝ }

@@ -10,7 +10,7 @@ use Rattle.plan.specs.Search.{opens, nothing, found}
 use Rattle.plan.specs.Tables.{planOf}
 use Rattle.unit.specs.Onward.{Onward}
 use Rattle.unit.specs.Clauses.{HasClauses, Ends}
-use Rattle.closing.proofs.Lending.{lent-ready, lent-indexable, lent-has-clauses}
+use Rattle.closing.proofs.Lending.{lent-ready, lent-has-clauses}
 use Rattle.closing.proofs.Rounds.{Going, first-round, go-clash, go-still, go-on, go-fewer}
 use Rattle.closing.proofs.close_after.Statement.{statement}
 use Rattle.closing.proofs.close_after.Tie as tie
@@ -26,7 +26,7 @@ propagate-requires c κs =
     let b = c .before .before .before in
     let t = b .args in (
       lent-ready (t .plan) (t .edges .now) (t .atoms .now) (t .clauses .now) (b .pre .0) (t .values .now) (b .pre .1 .1 .0),
-      (lent-indexable (t .plan) (t .edges .now) (t .atoms .now) (t .clauses .now) (b .pre .0), (b .pre .1 .0, rw (toZ-ofZ (b .fits .tried)) (b .pre .1 .1 .1))),
+      (b .pre .1 .0, rw (toZ-ofZ (b .fits .tried)) (b .pre .1 .1 .1)),
     )
 
 -- after what the clauses give at first

@@ -11,7 +11,7 @@ use Rattle.closing.proofs.pass_on.Statement.{statement}
 use Rattle.closing.proofs.pass_on.Tie as tie
 
 propagate-changes-requires : tie.Need-propagate-changes-requires
-propagate-changes-requires c κs = let b = c .before .before in (b .pre .0, (b .pre .1 .0, (b .pre .1 .1 .0, b .pre .1 .1 .1 .0)))
+propagate-changes-requires c κs = let b = c .before .before in (b .pre .0, (b .pre .1 .0, b .pre .1 .1 .0))
 
 -- after what the clauses give
 module _ (c : tie.After-propagate-changes) where
@@ -31,7 +31,7 @@ same-edges-requires : tie.Need-same-edges-requires
 same-edges-requires c κs =
     let d = c .before .before .before in
     let l = d .propagate-changes .ensures .shape .long in
-    (omega (arith, l, begin d .pre .0 .small), subst (λ n. Placed (edgesOf (begin d .args .edges .now)) n) (sym l) (begin d .pre .1 .1 .1 .1))
+    (omega (arith, l, begin d .pre .0 .small), subst (λ n. Placed (edgesOf (begin d .args .edges .now)) n) (sym l) (begin d .pre .1 .1 .1))
 
 returns-2 : tie.Need-returns-2
 returns-2 c =

@@ -4,7 +4,7 @@ use lib.IntN.{ℤ}
 use Rattle.plan.specs.Search.{Assigned}
 use Rattle.walk.proofs.Lending.{lent-inside, lent-placed}
 use Rattle.unit.specs.Queue.{Since}
-use Rattle.closing.proofs.Lending.{lent-ready, lent-atoms, lent-indexable}
+use Rattle.closing.proofs.Lending.{lent-ready, lent-atoms}
 use Rattle.closing.proofs.Rounds.{shape-after, since-atoms, round-clash, round-still, round-set}
 use borrow.Author.Needs.{needs}
 use Rattle.closing.proofs.round.Statement.{statement}
@@ -55,7 +55,7 @@ pass-on-requires c κs =
     let d = c .before .before .before .before .before in
     let t = begin d .args in (
       lent-ready (t .plan) (t .edges .now) (t .atoms .now) (t .clauses .now) (begin d .pre .0) (between d) (shape d),
-      (lent-indexable (t .plan) (t .edges .now) (t .atoms .now) (t .clauses .now) (begin d .pre .0), (begin d .pre .1 .0, (since d, lent-placed (begin d .pre .0) _ (shape d .long)))),
+      (begin d .pre .1 .0, (since d, lent-placed (begin d .pre .0) _ (shape d .long))),
     )
 
 enum-told-3 : tie.Need-enum-told-3

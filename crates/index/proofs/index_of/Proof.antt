@@ -106,7 +106,7 @@ loop-again c =
     rw (is c) (built-more (table t) (t .before .loop .places) (at t) (t .before .before .pre) (inside t) (subst (λ k. Built (table t) k (t .before .loop .places)) (omega (arith, t .loop-test .taken)) (t .before .loop .inv)))
 
 returns : tie.Need-returns Inv-loop μ-loop
-returns c = built-all (subst (λ k. Built (c .before .before .args .clauses .now) k (c .before .loop .places)) (omega (arith, c .loop-test .left)) (c .before .loop .inv))
+returns c = built-all (c .before .before .pre) (subst (λ k. Built (c .before .before .args .clauses .now) k (c .before .loop .places)) (omega (arith, c .loop-test .left)) (c .before .loop .inv))
 
 pub index-of-spec : {M : Type 1} → statement M
 index-of-spec =

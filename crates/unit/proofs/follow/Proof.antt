@@ -30,10 +30,10 @@ module _ (c : tie.Start Inv-loop μ-loop) where
   literal = getD (c .args .queue .now) (c .args .head) (pos 0)
 
   short : c .args .head < 512
-  short = omega (arith, c .pre .1 .1 .1 .0, c .pre .1 .1 .1 .1 .room)
+  short = omega (arith, c .pre .1 .1 .0, c .pre .1 .1 .1 .room)
 
   small : natAbs literal ≤ 512
-  small = omega (arith, c .pre .1 .1 .1 .1 .fits (c .args .head) (c .pre .1 .1 .1 .0) .high, c .pre .0 .small)
+  small = omega (arith, c .pre .1 .1 .1 .fits (c .args .head) (c .pre .1 .1 .0) .high, c .pre .0 .small)
 
 mul-opposite : tie.Need-mul-opposite Inv-loop μ-loop
 mul-opposite c = omega (arith, short c)
@@ -65,8 +65,8 @@ loop-holds c =
     let d = c .before in
     let b = d .before .before in
     let e = c .first-place .ensures ∙ ap (λ l. getD (b .args .places .now) (slot l) 0) (other d) in
-    let f = subst (λ r. Place (table b) (negℤ (literal b)) 0 r) (sym e) (b .pre .1 .1 .0 .first (negℤ (literal b)) (small-other d)) in
-    following-start (b .pre .0) (b .pre .1 .1 .1 .0) (b .pre .1 .1 .1 .1) f
+    let f = subst (λ r. Place (table b) (negℤ (literal b)) 0 r) (sym e) (b .pre .1 .0 .first (negℤ (literal b)) (small-other d)) in
+    following-start (b .pre .0) (b .pre .1 .1 .0) (b .pre .1 .1 .1) f
 
 start-of-requires : tie.Need-start-of-requires Inv-loop μ-loop
 start-of-requires c κs = c .loop-test .taken
@@ -109,7 +109,7 @@ module _ (c : tie.After-next-place Inv-loop μ-loop) where
   next : Place (table (begin looked)) (getD (table (begin looked)) (turn looked .loop .place) (pos 0)) (turn looked .loop .place + 1) (c .next-place .result)
   next =
       subst (λ r. Place (table (begin looked)) (getD (table (begin looked)) (turn looked .loop .place) (pos 0)) (turn looked .loop .place + 1) r) (sym (c .next-place .ensures))
-      (begin looked .pre .1 .1 .0 .next (turn looked .loop .place) (inside looked))
+      (begin looked .pre .1 .0 .next (turn looked .loop .place) (inside looked))
 
 loop-less : tie.Need-loop-less Inv-loop μ-loop
 loop-less c = omega (arith, next c .after, inside (looked c))

@@ -15,13 +15,13 @@ abbrev μ-loop : tie.MeasureT-loop
 μ-loop clauses places values₀ queue₀ tail end₀ head₀ values queue end head = 512 - head
 
 loop-holds : tie.Need-loop-holds Inv-loop μ-loop
-loop-holds c = leads-none (c .pre .0 .shape) (c .pre .1 .1 .1)
+loop-holds c = leads-none (c .pre .0 .shape) (c .pre .1 .1)
 
 follow-requires : tie.Need-follow-requires Inv-loop μ-loop
 follow-requires c κs =
     let t = c .before .before .before in
     let b = t .before in
-    (ready-kept (b .pre .0) (t .loop .inv .shape), (b .pre .1 .0, (b .pre .1 .1 .0, (c .before .before .loop-test .taken, t .loop .inv .goes refl))))
+    (ready-kept (b .pre .0) (t .loop .inv .shape), (b .pre .1 .0, (c .before .before .loop-test .taken, t .loop .inv .goes refl)))
 
 -- after a literal
 module _ (c : tie.After-follow Inv-loop μ-loop) where

@@ -16,10 +16,10 @@ array-set-from-queue c = search needs
 follow-all-requires : tie.Need-follow-all-requires
 follow-all-requires c κs =
     let b = c .before .before .before in
-    let t = b .pre .1 .1 .1 (λ e. c .before .before .if1 .taken (ap (ofZ w16) e)) in
+    let t = b .pre .1 .1 (λ e. c .before .before .if1 .taken (ap (ofZ w16) e)) in
     let p = subst (λ l. Pending (b .args .clauses .now) None (b .args .values .now) (set (replicate 512 (pos 0)) 0 l) 0 1) (sym (toZ-ofZ (b .fits .tried)))
     (pending-tried (replicate 512 (pos 0)) (b .pre .0 .small) refl t) in
-    (b .pre .0, (b .pre .1 .0, (b .pre .1 .1 .0, p)))
+    (b .pre .0, (b .pre .1 .0, p))
 
 returns : tie.Need-returns
 returns c = c .before .follow-all .ensures
@@ -40,7 +40,7 @@ follow-all-requires-2 : tie.Need-follow-all-requires-2
 follow-all-requires-2 c κs =
     let b = c .before .before .before .before .before .before .before .before in
     let p = c .before .before .before .before .pass .ensures in
-    (ready-kept (b .pre .0) (p .shape), (b .pre .1 .0, (b .pre .1 .1 .0, p .goes (c .before .before .if2 .left))))
+    (ready-kept (b .pre .0) (p .shape), (b .pre .1 .0, p .goes (c .before .before .if2 .left)))
 
 returns-3 : tie.Need-returns-3
 returns-3 c = propagated-then (c .before .before .before .before .before .before .pass .ensures) (c .before .follow-all2 .ensures)
