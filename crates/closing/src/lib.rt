@@ -59,11 +59,7 @@ fn given(atom: Atom, over: bool) -> i16
     requires { ⌜ atom .variable ≤ 512 ⌝ }
     ensures { λ r. ⌜ r ≡ givenBy over (atomOf atom) ⌝ }
 {
-    let literal = atom.variable as i16;
-    if over {
-        return -literal;
-    }
-    literal
+    plan::literal_of(plan::wide(atom.variable), !over)
 }
 
 // Looks at one atom by the hops from its source.

@@ -1,11 +1,12 @@
 -- The flat tables that the reader fills and the library lends on: docs/LAYOUT.md. A plan file as it stands in them.
 -- Assumes nothing.
 use mathlib.Core.Path.{_≡_}
+use mathlib.Core.Bool.{Bool, true, false}
 use mathlib.Core.List.{List, [], _∷_}
 use Prim.Native.Nat.{ℕ, zero, suc, _*_}
 use lib.IntN.{ℤ, pos, negsuc, negℤ}
 use lib.ListN.{length, getD}
-use Rattle.plan.specs.Meaning.{Edge, Atom, PlanFile}
+use Rattle.plan.specs.Meaning.{Edge, Atom, PlanFile, on, off}
 use Rattle.plan.specs.Ranged.{Ranged, literals}
 use Rattle.plan.specs.Written.{flat}
 use Rattle.plan.specs.declared.Plan.{Plan}
@@ -46,6 +47,11 @@ edgeOf e = record { from = e .from; to = e .to; variable = e .variable }
 
 abbrev pub atomOf : struct-of-atom.Atom → Atom
 atomOf A = record { kind = A .kind; from = A .from; to = A .to; bound = A .bound; variable = A .variable }
+
+-- A variable's literal: on or off.
+abbrev pub literalOf : Bool → ℕ → ℤ
+literalOf true v = on v
+literalOf false v = off v
 
 -- What a literal is in an assignment, as the code computes it: 1 true, -1 false, 0 open.
 unfoldable pub literalValue : List ℤ → ℤ → ℤ

@@ -6,7 +6,7 @@ ghost use Rattle.plan.specs.Meaning.{add, edge, atom};
 ghost use Rattle.plan.specs.Search.{Assigned};
 ghost use Rattle.plan.specs.Ranged.{LiteralFits};
 ghost use Rattle.plan.specs.Refusals.{numberOf, valueOf};
-ghost use Rattle.plan.specs.Tables.{edgesOf, atomsOf, edgeOf, atomOf, literalValue};
+ghost use Rattle.plan.specs.Tables.{edgesOf, atomsOf, edgeOf, atomOf, literalOf, literalValue};
 
 // Why a call is refused, with the value that is returned beside the number.
 pub enum Refusal {
@@ -148,6 +148,18 @@ pub fn variable_of(literal: i16) -> usize
     } else {
         literal as usize
     }
+}
+
+// A variable's literal: on or off.
+pub fn literal_of(variable: usize, sign: bool) -> i16
+    requires { ⌜ variable ≤ 512 ⌝ }
+    ensures { λ r. ⌜ r ≡ literalOf sign variable ⌝ }
+{
+    let literal = variable as i16;
+    if sign {
+        return literal;
+    }
+    -literal
 }
 
 // What a literal is in an assignment: 1 true, -1 false, 0 open.

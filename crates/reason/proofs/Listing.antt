@@ -9,29 +9,11 @@ use native.Mathlib.Omega.{arith}
 use native.Mathlib.Numerals.{add-one}
 use lib.ListN.{length, getD, set, take, drop, length-append, length-drop, length-map}
 use lib.Seq.{length-take-le, take-suc, take-take, drop-cons, drop-set-lt, set-at, getD-take}
-use lib.IntN.{ℤ, pos, negsuc, negℤ, natAbs}
+use lib.IntN.{ℤ}
 use lib.Dec.{T}
-use mir.Syntax.{w16}
-use mir.Val.{SFits, toZ}
-use mir.Facts.{toZ-ofZ}
 use Rattle.plan.specs.Reason.{Rising, end, more, Listed}
-use Rattle.reason.specs.Marks.{markedFrom, premises, literalOf, piece, Starts, Appends}
-
--- ---- the literal of a variable, as the code makes it
-
-small : (v : ℕ) → v ≤ 512 → SFits w16 (pos v)
-small v h = record { sfits = omega arith }
-
-pub literal-on : (v : ℕ) (sign : Bool) → v ≤ 512 → sign ≡ true → toZ w16 v ≡ literalOf sign v
-literal-on v true h e = toZ-ofZ (small v h)
-literal-on v false h e = let z : _≡_ {A = ℕ} 0 1 = cc in absurd (omega arith)
-
-pub has-opposite : (v : ℕ) → v ≤ 512 → toZ w16 v ≡ negsuc 32767 → ⊥
-has-opposite v h e = let z : v ≡ 32768 = ap natAbs (sym (toZ-ofZ (small v h)) ∙ e) in omega arith
-
-pub literal-off : (v : ℕ) (r : ℤ) (sign : Bool) → v ≤ 512 → sign ≡ false → r ≡ negℤ (toZ w16 v) → r ≡ literalOf sign v
-literal-off v r true h e q = let z : _≡_ {A = ℕ} 0 1 = cc in absurd (omega arith)
-literal-off v r false h e q = q ∙ ap negℤ (toZ-ofZ (small v h))
+use Rattle.plan.specs.Tables.{literalOf}
+use Rattle.reason.specs.Marks.{markedFrom, premises, piece, Starts, Appends}
 
 -- ---- rising, each once
 

@@ -8,7 +8,8 @@ use Prim.Native.Nat.{ℕ, suc, _<_}
 use lib.ListN.{length, getD, take, drop}
 use lib.IntN.{ℤ}
 use lib.Dec.{T}
-use Rattle.plan.specs.Meaning.{Edge, Atom, edge, on, off, trueIn, under, over}
+use Rattle.plan.specs.Meaning.{Edge, Atom, edge, off, trueIn, under, over}
+use Rattle.plan.specs.Tables.{literalOf}
 use Rattle.plan.specs.Meaning as meaning
 use Rattle.plan.specs.Reason.{Smallest, Nearer, Back, Across}
 use Rattle.walk.specs.Hopping.{HopTable}
@@ -67,11 +68,6 @@ markedFrom b (false ∷ m) = markedFrom (suc b) m
 
 abbrev pub premises : List Bool → ℕ → List ℕ
 premises m n = markedFrom 0 (take n m)
-
--- A variable's literal: on or off.
-abbrev pub literalOf : Bool → ℕ → ℤ
-literalOf true v = on v
-literalOf false v = off v
 
 -- What one mark adds to the clause.
 abbrev pub piece : Bool → Bool → ℕ → List ℤ

@@ -8,10 +8,10 @@ ghost use mathlib.Core.List.{_∷_, map};
 ghost use Prim.Native.Nat.{suc, _+_, _*_, _<_, _≤_};
 ghost use lib.ListN.{length};
 ghost use Rattle.plan.specs.Meaning.{atom, IsTrue, trueIn, under, over};
-ghost use Rattle.plan.specs.Tables.{edgesOf, atomsOf, edgeOf, atomOf};
+ghost use Rattle.plan.specs.Tables.{edgesOf, atomsOf, edgeOf, atomOf, literalOf};
 ghost use Rattle.walk.specs.Hopping.{graphOf, Inside, Placed, HopTable};
 ghost use Rattle.reason.specs.Answers.{AnswerIs, Over, Wrote, Asked};
-ghost use Rattle.reason.specs.Marks.{LeadsNearer, Distant, FirstNearer, MarksPath, Crosses, MarksCut, premises, literalOf, piece, Starts, Appends};
+ghost use Rattle.reason.specs.Marks.{LeadsNearer, Distant, FirstNearer, MarksPath, Crosses, MarksCut, premises, piece, Starts, Appends};
 
 // What is answered: the atom holds or fails, with the number of literals written; or it is open; or the clause needs more room than there is, and how much.
 pub enum Answer {
@@ -179,18 +179,6 @@ fn mark_cut(edges: &[u16], assignment: &[i8], atom: Atom, hops: Hops) -> [bool; 
     marks
 }
 
-// The literal of a variable: on or off.
-fn literal_of(variable: usize, sign: bool) -> i16
-    requires { ⌜ variable ≤ 512 ⌝ }
-    ensures { λ r. ⌜ r ≡ literalOf sign variable ⌝ }
-{
-    let literal = variable as i16;
-    if sign {
-        return literal;
-    }
-    plan::opposite(literal)
-}
-
 fn one_if(mark: bool) -> usize
     ensures { λ r. ⌜ r ≡ length (piece mark true 0) ⌝ }
 {
@@ -224,7 +212,7 @@ fn write_mark(mark: bool, variable: usize, sign: bool, at: usize, out: &mut [i16
     if !mark {
         return at;
     }
-    out[at] = literal_of(variable, sign);
+    out[at] = plan::literal_of(variable, sign);
     at + 1
 }
 
@@ -262,7 +250,7 @@ fn write_answer(
     if out.len() < length {
         return Answer::Short(length);
     }
-    let first = literal_of(variable, holds);
+    let first = plan::literal_of(variable, holds);
     write_clause(first, !holds, marks, variables, out);
     if holds {
         return Answer::Holds(length);

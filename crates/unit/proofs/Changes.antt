@@ -2,7 +2,7 @@
 -- Assumes nothing.
 use mathlib.Core.Path.{_≡_, refl, sym, subst, _∙_, ap}
 use mathlib.Core.Logic.{_⊎_, inl, inr, _≢_}
-use mathlib.Core.Bool.{true, false}
+use mathlib.Core.Bool.{Bool, true, false, not}
 use mathlib.Core.List.{List, _∷_, List·Memᴰ}
 use Prim.Native.Nat.{ℕ, zero, suc, _+_, _≤_, _<_}
 use native.Mathlib.Decide.{ℕ-discrete}
@@ -17,21 +17,22 @@ use borrow.Author.Tests.{ltb-true}
 use Rattle.plan.specs.Meaning.{on, off, isOn, isOff, value, trueIn}
 use Rattle.plan.specs.Ranged.{LiteralFits}
 use Rattle.plan.specs.Search.{opens}
+use Rattle.plan.specs.Tables.{literalOf}
 use Rattle.plan.proofs.Add.{IsValue, on-one, off-one}
-use Rattle.plan.proofs.Signs.{natAbs-neg, not-below-zero}
+use Rattle.plan.proofs.Signs.{natAbs-neg}
 use Rattle.plan.proofs.Walks.{le-or-lt}
 use Rattle.unit.specs.Clauses.{Quiet}
 use Rattle.unit.specs.Queue.{Waits, Pending, None, Above, Since, literalAt, Queued}
 use Rattle.unit.proofs.Calm.{quiet-or-false}
 
 -- the literal of a place and its value, as the code makes it
-pub literal-off : (i : ℕ) (x : ℤ) → ltZ x (pos 0) ≡ true → off (i + 1) ≡ literalAt i x
-literal-off i (pos n) e = let h : n < 0 = ltb-true n 0 e in absurd (omega arith)
-literal-off i (negsuc n) e = refl
-
-pub literal-on : (i : ℕ) (x : ℤ) → ltZ x (pos 0) ≡ false → on (i + 1) ≡ literalAt i x
-literal-on i (pos n) e = refl
-literal-on i (negsuc n) e = absurd (not-below-zero (negsuc n) e)
+pub literal-is : (i : ℕ) (x : ℤ) → literalOf (not (ltZ x (pos 0))) (i + 1) ≡ literalAt i x
+literal-is i (pos n) = go (ltZ (pos n) (pos 0)) refl
+  where
+    go : (b : Bool) → ltZ (pos n) (pos 0) ≡ b → literalOf (not b) (i + 1) ≡ on (i + 1)
+    go false e = refl
+    go true e = let h : n < 0 = ltb-true n 0 e in absurd (omega arith)
+literal-is i (negsuc n) = refl
 
 literal-fits : (n i : ℕ) (x : ℤ) → i < n → LiteralFits n (literalAt i x)
 literal-fits n i (pos k) h = record { low = omega arith; high = omega arith }

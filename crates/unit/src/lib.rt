@@ -239,11 +239,7 @@ fn literal_at(place: usize, value: i8) -> i16
     requires { ⌜ place < 512 ⌝ }
     ensures { λ r. ⌜ r ≡ literalAt place value ⌝ }
 {
-    let variable = (place + 1) as i16;
-    if value < 0 {
-        return -variable;
-    }
-    variable
+    plan::literal_of(place + 1, !(value < 0))
 }
 
 // Queues the literals that `values` has and `before` has not. Returns the queue's end.

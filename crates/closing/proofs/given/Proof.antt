@@ -1,22 +1,30 @@
-use mathlib.Core.Path.{sym, ap, _∙_}
-use Rattle.closing.specs.Atoms.{givenBy}
-use Rattle.plan.specs.Tables.{atomOf}
-use Rattle.plan.proofs.Literals.{on-is, off-fits, off-is}
+use mathlib.Core.Path.{_≡_, refl, ap, _∙_}
+use mathlib.Core.Bool.{Bool, true, false, not}
 use borrow.Author.Needs.{needs}
+use mir.Syntax.{w16}
+use mir.Val.{SFits}
+use mir.Facts.{toZ-ofZ}
+use Rattle.plan.specs.Meaning.{Atom}
+use Rattle.plan.specs.Tables.{atomOf, literalOf}
+use Rattle.closing.specs.Atoms.{givenBy}
 use Rattle.closing.proofs.given.Statement.{statement}
 use Rattle.closing.proofs.given.Tie as tie
 
-cast-literal : tie.Need-cast-literal
-cast-literal c = search needs
+sign-of : (over : Bool) (A : Atom) → literalOf (not over) (A .variable) ≡ givenBy over A
+sign-of true A = refl
+sign-of false A = refl
 
-sub-result : tie.Need-sub-result
-sub-result c = off-fits _ (c .before .before .pre)
+wide-requires : tie.Need-wide-requires
+wide-requires c κs = search needs
+
+literal-of-requires : tie.Need-literal-of-requires
+literal-of-requires c κs = search needs
 
 returns : tie.Need-returns
-returns c = off-is (c .before .before .args .atom .variable) (c .before .before .pre) ∙ sym (ap (λ b. givenBy b (atomOf (c .before .before .args .atom))) (c .if1 .taken))
-
-returns-2 : tie.Need-returns-2
-returns-2 c = on-is (c .before .before .args .atom .variable) (c .before .before .pre) ∙ sym (ap (λ b. givenBy b (atomOf (c .before .before .args .atom))) (c .if1 .left))
+returns c =
+    let b = c .before .before in
+    let f : SFits w16 (c .literal-of .result) = search needs in
+    toZ-ofZ f ∙ c .literal-of .ensures ∙ ap (literalOf (not (b .args .over))) (c .before .wide .ensures) ∙ sign-of (b .args .over) (atomOf (b .args .atom))
 
 pub given-spec : {M : Type 1} → statement M
-given-spec = tie.close (tie.spec cast-literal sub-result returns returns-2)
+given-spec = tie.close (tie.spec wide-requires literal-of-requires returns)

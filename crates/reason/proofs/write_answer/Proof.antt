@@ -5,7 +5,8 @@ use native.Mathlib.Omega.{arith}
 use mir.Syntax.{w16}
 use mir.Val.{SFits}
 use mir.Facts.{toZ-ofZ}
-use Rattle.reason.specs.Marks.{literalOf, Starts}
+use Rattle.plan.specs.Tables.{literalOf}
+use Rattle.reason.specs.Marks.{Starts}
 use Rattle.reason.proofs.Listing.{clauseUpTo, premises-most}
 use Rattle.reason.proofs.Answering.{gave, too-short}
 use borrow.Author.Needs.{needs}

@@ -7,7 +7,8 @@ use lib.ListN.{length, getD, set, length-set}
 use mir.Syntax.{w16}
 use mir.Val.{toZ, ofZ}
 use mir.Facts.{toZ-ofZ}
-use Rattle.reason.specs.Marks.{premises, literalOf, Starts}
+use Rattle.plan.specs.Tables.{literalOf}
+use Rattle.reason.specs.Marks.{premises, Starts}
 use Rattle.reason.proofs.Listing.{premises-zero, premises-count, premises-fewer, piece-length, clauseUpTo, starts-zero, starts-next, starts-over}
 use Rattle.reason.proofs.write_clause.Statement.{statement}
 use Rattle.reason.proofs.write_clause.Tie as tie

@@ -6,7 +6,7 @@ use lib.ListN.{length}
 use mir.Syntax.{w16}
 use mir.Val.{SFits}
 use mir.Facts.{toZ-ofZ}
-use Rattle.reason.specs.Marks.{literalOf}
+use Rattle.plan.specs.Tables.{literalOf}
 use Rattle.reason.proofs.Listing.{piece-true, piece-false, appends-none, appends-one}
 use borrow.Author.Needs.{needs}
 use Rattle.reason.proofs.write_mark.Statement.{statement}
