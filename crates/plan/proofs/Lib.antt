@@ -16,3 +16,4 @@ pub mod Signs
 pub mod Literals
 pub mod Cases
 pub mod Refusals
+pub mod Places

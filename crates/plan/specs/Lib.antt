@@ -6,4 +6,6 @@ pub mod Judging
 pub mod Reason
 pub mod Written
 pub mod Tables
+pub mod Buffers
+pub mod Places
 pub mod Refusals

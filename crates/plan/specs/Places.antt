@@ -1,0 +1,14 @@
+-- The first place with a property.
+-- Assumes nothing.
+use Prim.Native.Nat.{ℕ, _≤_, _<_}
+
+-- No place from `from` up to `at` has the property P.
+abbrev pub Without : (ℕ → Type 0) → ℕ → ℕ → Type 0
+Without P from at = (k : ℕ) → from ≤ k → k < at → P k → ⊥
+
+-- The first place from `from` on that has the property P, looked for below `end`; `end` where there is none.
+pub record First (P : ℕ → Type 0) (from end r : ℕ) : Type 0 where
+  pub after : from ≤ r
+  pub inside : r ≤ end
+  pub before : Without P from r
+  pub here : r < end → P r
