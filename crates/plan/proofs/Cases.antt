@@ -11,12 +11,15 @@ use lib.ListN.{length, getD}
 use lib.IntN.{ℤ, pos, negsuc, natAbs}
 use lib.Dec.{T, T-not, eqb, eqb→eq, eqb-refl, ltb, ltb→lt, leb, leb→le}
 use Rattle.plan.specs.Meaning.{Edge, Atom, PlanFile, edge, IsTrue, isOn, isOff, value, trueIn, add, under, Full}
-use Rattle.plan.specs.Ranged.{maxNodes, maxVariables, maxEdges, maxAtoms, maxBound, maxClauses, maxLiterals, literals, EndsFit, Ranged}
+use Rattle.plan.specs.Ranged.{maxNodes, maxVariables, maxEdges, maxAtoms, maxBound, maxClauses, maxLiterals, literals, EndsFit, BoundFits, Ranged}
+use Rattle.plan.specs.Written.{levels}
+use Rattle.plan.specs.declared.Kind.{Kind}
+use Rattle.plan.specs.declared.Kind.the-variants.{Reaches, Within}
 use Rattle.plan.specs.Search.{Assigned, CloseIs, Outcome, nothing, found, Tree}
 use Rattle.plan.specs.Judging.{Verdict, plan, no-true, wrong, Judged}
 use Rattle.plan.specs.Reason.{Reason, holds, fails, neither, ReasonIs}
 use Rattle.plan.proofs.Bools.{allOf, and-left, and-right, or-cases, all-each}
-use Rattle.plan.proofs.Levels.{next, reached, isTrueAt?, isTrue?, true-iff}
+use Rattle.plan.proofs.Levels.{next, reached, isTrue?, true-iff}
 use Rattle.plan.proofs.Add.{on-one, off-one}
 use Rattle.plan.proofs.Compute.{eqℤ, close, search}
 use Rattle.plan.proofs.Exists.{eqℤ→eq, closing-is, searching-is}
@@ -42,11 +45,16 @@ ends-fit n m f t v h =
 abbrev edgeFits? : PlanFile → Edge → Bool
 edgeFits? φ e = ends? (φ .nodes) (φ .variables) (e .from) (e .to) (e .variable)
 
-abbrev kind? : Atom → Bool
-kind? A = (eqb (A .kind) 1 && eqb (A .bound) 0) || (eqb (A .kind) 2 && leb (A .bound) maxBound)
+abbrev bound? : Kind → ℕ → Bool
+bound? Reaches d = eqb d 0
+bound? Within d = leb d maxBound
+
+bound-is : (kind : Kind) (d : ℕ) → T (bound? kind d) → BoundFits kind d
+bound-is Reaches d t = eqb→eq d 0 t
+bound-is Within d t = leb→le d maxBound t
 
 abbrev atomFits? : PlanFile → Atom → Bool
-atomFits? φ A = ends? (φ .nodes) (φ .variables) (A .from) (A .to) (A .variable) && (kind? A && allOf (λ e. not (eqb (e .variable) (A .variable))) (φ .edges))
+atomFits? φ A = ends? (φ .nodes) (φ .variables) (A .from) (A .to) (A .variable) && (bound? (A .kind) (A .bound) && allOf (λ e. not (eqb (e .variable) (A .variable))) (φ .edges))
 
 abbrev clauseFits? : PlanFile → List ℤ → Bool
 clauseFits? φ C = leb 1 (length C) && allOf (λ l. between 1 (natAbs l) (φ .variables)) C
@@ -58,11 +66,6 @@ counts? φ =
 
 abbrev ranged? : PlanFile → Bool
 ranged? φ = counts? φ && (allOf (edgeFits? φ) (φ .edges) && (allOf (atomFits? φ) (φ .atoms) && allOf (clauseFits? φ) (φ .clauses)))
-
-kind-is : (A : Atom) → T (eqb (A .kind) 1 && eqb (A .bound) 0) ⊎ T (eqb (A .kind) 2 && leb (A .bound) maxBound)
-    → ((A .kind ≡ 1) × (A .bound ≡ 0)) ⊎ ((A .kind ≡ 2) × (A .bound ≤ maxBound))
-kind-is A (inl t) = inl (eqb→eq (A .kind) 1 (and-left (eqb (A .kind) 1) _ t), eqb→eq (A .bound) 0 (and-right (eqb (A .kind) 1) _ t))
-kind-is A (inr t) = inr (eqb→eq (A .kind) 2 (and-left (eqb (A .kind) 2) _ t), leb→le (A .bound) maxBound (and-right (eqb (A .kind) 2) _ t))
 
 ranged : (φ : PlanFile) → T (ranged? φ) → Ranged φ
 ranged φ t =
@@ -89,13 +92,13 @@ ranged φ t =
       literals = leb→le (literals (φ .clauses)) maxLiterals (and-right (leb (length (φ .clauses)) maxClauses) _ c4);
       edge = λ e m. ends-fit (φ .nodes) (φ .variables) (e .from) (e .to) (e .variable) (all-each (edgeFits? φ) (φ .edges) es e m);
       atom = λ A m. ends-fit (φ .nodes) (φ .variables) (A .from) (A .to) (A .variable) (and-left (ends? (φ .nodes) (φ .variables) (A .from) (A .to) (A .variable)) _ (bs A m));
-      kind = λ A m. kind-is A (or-cases (eqb (A .kind) 1 && eqb (A .bound) 0) _ (and-left (kind? A) _ (and-right (ends? (φ .nodes) (φ .variables) (A .from) (A .to) (A .variable)) _ (bs A m))));
+      bound = λ A m. bound-is (A .kind) (A .bound) (and-left (bound? (A .kind) (A .bound)) _ (and-right (ends? (φ .nodes) (φ .variables) (A .from) (A .to) (A .variable)) _ (bs A m)));
       clause = λ C m. leb→le 1 (length C) (and-left (leb 1 (length C)) _ (cs C m));
       literal = λ C m l k.
           let h = between-is 1 (natAbs l) (φ .variables) (all-each (λ l. between 1 (natAbs l) (φ .variables)) C (and-right (leb 1 (length C)) _ (cs C m)) l k) in
           record { low = h .0; high = h .1 };
       apart = λ e m A k q.
-          let h = all-each (λ e. not (eqb (e .variable) (A .variable))) (φ .edges) (and-right (kind? A) _ (and-right (ends? (φ .nodes) (φ .variables) (A .from) (A .to) (A .variable)) _ (bs A k))) e m in
+          let h = all-each (λ e. not (eqb (e .variable) (A .variable))) (φ .edges) (and-right (bound? (A .kind) (A .bound)) _ (and-right (ends? (φ .nodes) (φ .variables) (A .from) (A .to) (A .variable)) _ (bs A k))) e m in
           T-not (eqb (e .variable) (A .variable)) h (subst (λ z. T (eqb (e .variable) z)) q (eqb-refl (e .variable)));
     }
 
@@ -266,10 +269,10 @@ link : ℕ → ℕ → ℕ → Edge
 link f t v = record { from = f; to = t; variable = v }
 
 reaches : ℕ → ℕ → ℕ → Atom
-reaches f t v = record { kind = 1; from = f; to = t; bound = 0; variable = v }
+reaches f t v = record { kind = Reaches; from = f; to = t; bound = 0; variable = v }
 
 within : ℕ → ℕ → ℕ → ℕ → Atom
-within d f t v = record { kind = 2; from = f; to = t; bound = d; variable = v }
+within d f t v = record { kind = Within; from = f; to = t; bound = d; variable = v }
 
 lone : PlanFile
 lone = record { nodes = 1; variables = 1; edges = []; atoms = reaches 0 0 1 ∷ []; clauses = [] }
@@ -313,5 +316,5 @@ table =
     ∷ []
 
 pub shown : (c : Case) → List·Memᴰ c table → Says c
-unfolding table lone row sample link reaches within y n o literals next reached isTrueAt? judge close search reason trueIn value add
+unfolding table lone row sample link reaches within y n o literals next reached isTrue? levels judge close search reason trueIn value add
 shown c m = passed c (all-each passes table tt c m)

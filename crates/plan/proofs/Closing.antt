@@ -2,7 +2,7 @@
 -- Assumes nothing.
 use mathlib.Core.Path.{_≡_, subst}
 use mathlib.Core.Logic.{_⊎_, inl, inr, _↔_}
-use mathlib.Core.Bool.{not, _||_}
+use mathlib.Core.Bool.{Bool, true, false, not, _||_}
 use mathlib.Core.List.{List, List·Memᴰ}
 use Prim.Native.Nat.{ℕ, zero, suc, _≤_, _<_}
 use native.Mathlib.Omega.{arith}
@@ -11,26 +11,35 @@ use lib.IntN.{ℤ, pos, negsuc, negℤ, natAbs, ℤ-discrete}
 use lib.Dec.{T, T-not, not-T}
 use Rattle.plan.specs.Meaning.{Edge, Atom, PlanFile, IsTrue, on, off, value, isOn, isOff, Literals, _⊆_, trueIn, add, under, over, Full, IsPlan}
 use Rattle.plan.specs.Ranged.{Ranged}
-use Rattle.plan.specs.Closing.{HoldsIn, FailsIn, Gives, unit, holds, fails, Obeys, Clash, both, all-false, Closing, Closed, Clashes}
+use Rattle.plan.specs.Closing.{Settles, Gives, unit, settled, Obeys, Clash, both, all-false, Closing, Closed, Clashes}
 use Rattle.plan.proofs.Bools.{T?, T-same, any-or-none, or-cases, or-left, or-right}
 use Rattle.plan.proofs.Walks.{true-mono}
 use Rattle.plan.proofs.Levels.{isTrue?, true-iff}
 
--- what a set says of an atom, a larger one says too
-pub holdsIn-mono : (φ : PlanFile) (S R : Literals) → S ⊆ R → (A : Atom) → HoldsIn φ S A → HoldsIn φ R A
-holdsIn-mono φ S R h A x = true-mono (φ .edges) (under S) (under R) A (λ e i t. h (on (e .variable)) t) x
+-- a larger set of literals has more in its under graph and less in its over graph; so what it settles of an atom stays settled
+over-less : (S R : Literals) → S ⊆ R → (e : Edge) → T (over R e) → T (over S e)
+over-less S R h e t = not-T (S (off (e .variable))) (λ u. T-not (R (off (e .variable))) t (h (off (e .variable)) u))
 
-pub failsIn-mono : (φ : PlanFile) (S R : Literals) → S ⊆ R → (A : Atom) → FailsIn φ S A → FailsIn φ R A
-failsIn-mono φ S R h A n x = n (true-mono (φ .edges) (over R) (over S) A (λ e i t. less e t) x)
-  where
-    less : (e : Edge) → T (not (R (off (e .variable)))) → T (not (S (off (e .variable))))
-    less e t = not-T (S (off (e .variable))) (λ u. T-not (R (off (e .variable))) t (h (off (e .variable)) u))
+pub settles-mono : (φ : PlanFile) (S R : Literals) → S ⊆ R → (A : Atom) (b : Bool) → Settles φ S A b → Settles φ R A b
+settles-mono φ S R h A true x = true-mono (φ .edges) (under S) (under R) A (λ e i t. h (on (e .variable)) t) x
+settles-mono φ S R h A false n = λ x. n (true-mono (φ .edges) (over R) (over S) A (λ e i t. over-less S R h e t) x)
+
+-- what is settled, as antt computes it
+abbrev pub settles? : PlanFile → Literals → Atom → Bool → Bool
+settles? φ S A true = isTrue? (φ .nodes) (φ .edges) (under S) A
+settles? φ S A false = not (isTrue? (φ .nodes) (φ .edges) (over S) A)
+
+pub settles-iff : (φ : PlanFile) (S : Literals) (A : Atom) → ((e : Edge) → List·Memᴰ e (φ .edges) → e .to < φ .nodes) → A .from < φ .nodes
+    → (b : Bool) → T (settles? φ S A b) ↔ Settles φ S A b
+settles-iff φ S A inside start true = true-iff (φ .nodes) (φ .edges) (under S) A inside start
+settles-iff φ S A inside start false =
+    let q = true-iff (φ .nodes) (φ .edges) (over S) A inside start in
+    ((λ t x. T-not (isTrue? (φ .nodes) (φ .edges) (over S) A) t (q .1 x)), (λ n. not-T (isTrue? (φ .nodes) (φ .edges) (over S) A) (λ t. n (q .0 t))))
 
 -- what a set gives, a larger one gives too
 pub gives-mono : (φ : PlanFile) (S R : Literals) → S ⊆ R → (l : ℤ) → Gives φ S l → Gives φ R l
 gives-mono φ S R h l (unit C m z i others) = unit C m z i (λ x k n. h (negℤ x) (others x k n))
-gives-mono φ S R h l (holds A m x) = holds A m (holdsIn-mono φ S R h A x)
-gives-mono φ S R h l (fails A m n) = fails A m (failsIn-mono φ S R h A n)
+gives-mono φ S R h l (settled A m b x) = settled A m b (settles-mono φ S R h A b x)
 
 -- sets
 pub clash-mono : (φ : PlanFile) (S R : Literals) → S ⊆ R → Clash φ S → Clash φ R
@@ -136,15 +145,15 @@ module _ (φ : PlanFile) (ok : Ranged φ) (a : List ℤ) where
       go : (x : ℤ) → List·Memᴰ x C → T (trueIn a x) → Dec (x ≡ l) → T (trueIn a l)
       go x k t (yes e) = subst (λ z. T (trueIn a z)) e t
       go x k t (no n) = absurd (never-both a x t (others x k n))
-  plan-obeys p l (holds A m h) = p .atom A m .1 h
-  plan-obeys p l (fails A m n) = go (one-of (φ .variables) a (p .full) (on (A .variable)) (ok .atom A m .low) (ok .atom A m .high))
+  plan-obeys p l (settled A m true h) = p .atom A m .1 h
+  plan-obeys p l (settled A m false n) = go (one-of (φ .variables) a (p .full) (on (A .variable)) (ok .atom A m .low) (ok .atom A m .high))
     where
       go : T (trueIn a (on (A .variable))) ⊎ T (trueIn a (off (A .variable))) → T (trueIn a (off (A .variable)))
       go (inl t) = absurd (n (true-mono (φ .edges) (under (trueIn a)) (over (trueIn a)) A (λ e i u. on-over a (e .variable) u) (p .atom A m .0 t)))
       go (inr t) = t
 
   pub full-plan : Full (φ .variables) a → Obeys φ (trueIn a) → (Clash φ (trueIn a) → ⊥) → IsPlan φ a
-  full-plan f o free = record { full = f; clause = some-true; atom = λ A m. (right A m, λ h. o (on (A .variable)) (holds A m h)) }
+  full-plan f o free = record { full = f; clause = some-true; atom = λ A m. (right A m, λ h. o (on (A .variable)) (settled A m true h)) }
     where
       some-true : (C : List ℤ) → List·Memᴰ C (φ .clauses) → (l : ℤ) × List·Memᴰ l C × T (trueIn a l)
       some-true C m = go (any-or-none (trueIn a) C)
@@ -169,7 +178,7 @@ module _ (φ : PlanFile) (ok : Ranged φ) (a : List ℤ) where
           go : T (isTrue? (φ .nodes) (φ .edges) (under (trueIn a)) A) ⊎ (T (isTrue? (φ .nodes) (φ .edges) (under (trueIn a)) A) → ⊥)
               → IsTrue (φ .edges) (under (trueIn a)) A
           go (inl h) = same .0 h
-          go (inr n) = absurd (never-both a (on (A .variable)) t (o (off (A .variable)) (fails A m (λ h. n (same .1 (ov h))))))
+          go (inr n) = absurd (never-both a (on (A .variable)) t (o (off (A .variable)) (settled A m false (λ h. n (same .1 (ov h))))))
 
   -- a plan that contains the given literals contains their closing; and if closing them clashes, none does
   pub plan-above : IsPlan φ a → (G S : Literals) → Closing φ G S → G ⊆ trueIn a → S ⊆ trueIn a

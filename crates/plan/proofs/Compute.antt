@@ -6,9 +6,9 @@ use mathlib.Core.Option.{Option, none, some}
 use Prim.Native.Nat.{ℕ, zero, suc, _+_}
 use lib.IntN.{ℤ, pos, negsuc, negℤ}
 use lib.Dec.{eqb}
-use Rattle.plan.specs.Meaning.{Atom, PlanFile, on, off, trueIn, add, under, over}
+use Rattle.plan.specs.Meaning.{Atom, PlanFile, on, off, literalOf, trueIn, add}
 use Rattle.plan.proofs.Bools.{allOf, anyOf, each, those}
-use Rattle.plan.proofs.Levels.{isTrue?}
+use Rattle.plan.proofs.Closing.{settles?}
 use Rattle.plan.specs.Search.{Outcome, nothing, found}
 
 abbrev pub eqℤ : ℤ → ℤ → Bool
@@ -21,10 +21,11 @@ eqℤ (negsuc m) (negsuc n) = eqb m n
 abbrev pub byClause : List ℤ → List ℤ → List ℤ
 byClause a C = those (λ l. allOf (λ m. eqℤ m l || trueIn a (negℤ m)) C) C
 
+abbrev pub byVerdict : PlanFile → List ℤ → Atom → Bool → List ℤ
+byVerdict φ a A b = cond (settles? φ (trueIn a) A b) (literalOf b (A .variable) ∷ []) []
+
 abbrev pub byAtom : PlanFile → List ℤ → Atom → List ℤ
-byAtom φ a A =
-    cond (isTrue? (φ .nodes) (φ .edges) (under (trueIn a)) A) (on (A .variable) ∷ []) []
-    ++ cond (isTrue? (φ .nodes) (φ .edges) (over (trueIn a)) A) [] (off (A .variable) ∷ [])
+byAtom φ a A = each (byVerdict φ a A) (true ∷ false ∷ [])
 
 abbrev pub gives : PlanFile → List ℤ → List ℤ
 gives φ a = each (byClause a) (φ .clauses) ++ each (byAtom φ a) (φ .atoms)

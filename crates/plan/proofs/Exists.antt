@@ -1,7 +1,7 @@
 -- Every assignment has its closing and its search tree: the computed ones are right.
 -- Assumes nothing.
 use mathlib.Core.Path.{_≡_, refl, sym, subst, ap}
-use mathlib.Core.Logic.{_⊎_, inl, inr, _≢_}
+use mathlib.Core.Logic.{_⊎_, inl, inr, _≢_, _↔_}
 use mathlib.Core.Bool.{Bool, true, false, cond, _||_}
 use mathlib.Core.List.{List, [], _∷_, List·Memᴰ, List·Memᴰ·head, List·Memᴰ·tail, List·Memᴰ·cases-cons, List·Memᴰ·not-nil, List·Memᴰ·append-cases, Memᴰ·append-left, Memᴰ·append-right, List·Memᴰ·eq-of-singleton}
 use mathlib.Core.Option.{Option, none, some}
@@ -10,16 +10,15 @@ use native.Mathlib.Omega.{arith}
 use lib.ListN.{length, getD}
 use lib.IntN.{ℤ, pos, negsuc, negℤ, natAbs, ℤ-discrete}
 use lib.Dec.{T, eqb→eq, eqb-refl}
-use Rattle.plan.specs.Meaning.{Atom, PlanFile, on, off, Literals, _⊆_, trueIn, add, under, over, Full}
+use Rattle.plan.specs.Meaning.{Atom, PlanFile, on, off, literalOf, Literals, _⊆_, trueIn, add, Full}
 use Rattle.plan.specs.Ranged.{Ranged}
-use Rattle.plan.specs.Closing.{Gives, unit, holds, fails, Obeys, Clash, both, all-false, Clashes}
+use Rattle.plan.specs.Closing.{Settles, Gives, unit, settled, Obeys, Clash, both, all-false, Clashes}
 use Rattle.plan.specs.Search.{Assigned, opens, Closes, CloseIs, Lowest, Outcome, nothing, found, Tree, clashed, full, first-found, first-nothing}
 use Rattle.plan.proofs.Bools.{anyOf, each, those, or-cases, or-left, or-right, any-some, some-any, all-each, each-all}
-use Rattle.plan.proofs.Levels.{isTrue?, true-iff}
-use Rattle.plan.proofs.Closing.{gives-mono, clash-mono, never-both}
+use Rattle.plan.proofs.Closing.{settles?, settles-iff, gives-mono, clash-mono, never-both}
 use Rattle.plan.proofs.Add.{IsValue, add-below, add-above, add-shape, add-opens, opens-sub}
 use Rattle.plan.proofs.Search.{low-n, not-on, not-off, off-shape, on-shape}
-use Rattle.plan.proofs.Compute.{eqℤ, byClause, byAtom, gives, firstNew, allFalse, meet, closeStep, close, Counted, later, firstOpen, afterOff, atOpen, afterClose, search}
+use Rattle.plan.proofs.Compute.{eqℤ, byClause, byVerdict, byAtom, gives, firstNew, allFalse, meet, closeStep, close, Counted, later, firstOpen, afterOff, atOpen, afterClose, search}
 
 -- lists
 pub eqℤ→eq : (m l : ℤ) → T (eqℤ m l) → m ≡ l
@@ -84,20 +83,15 @@ module _ {A : Type 0} where
 
 -- the computed literals are those that the rules give
 module _ (φ : PlanFile) (ok : Ranged φ) (a : List ℤ) where
+  settled-iff : (A : Atom) → List·Memᴰ A (φ .atoms) → (b : Bool) → T (settles? φ (trueIn a) A b) ↔ Settles φ (trueIn a) A b
+  settled-iff A m b = settles-iff φ (trueIn a) A (λ e i. ok .edge e i .to-in) (ok .atom A m .from-in) b
+
   byAtom-out : (A : Atom) → List·Memᴰ A (φ .atoms) → (l : ℤ) → List·Memᴰ l (byAtom φ a A) → Gives φ (trueIn a) l
-  byAtom-out A m l k = go (List·Memᴰ·append-cases (cond (isTrue? (φ .nodes) (φ .edges) (under (trueIn a)) A) (on (A .variable) ∷ []) []) k)
+  byAtom-out A m l k = let q = each-out (byVerdict φ a A) (true ∷ false ∷ []) l k in go (q .0) (settles? φ (trueIn a) A (q .0)) (settled-iff A m (q .0) .0) (q .2)
     where
-      up : (b : Bool) → (T b → Gives φ (trueIn a) (on (A .variable))) → List·Memᴰ l (cond b (on (A .variable) ∷ []) []) → Gives φ (trueIn a) l
-      up true g h = subst (λ z. Gives φ (trueIn a) z) (sym (List·Memᴰ·eq-of-singleton h)) (g tt)
-      up false g h = absurd (List·Memᴰ·not-nil h)
-
-      down : (b : Bool) → ((T b → ⊥) → Gives φ (trueIn a) (off (A .variable))) → List·Memᴰ l (cond b [] (off (A .variable) ∷ [])) → Gives φ (trueIn a) l
-      down false g h = subst (λ z. Gives φ (trueIn a) z) (sym (List·Memᴰ·eq-of-singleton h)) (g (λ t. t))
-      down true g h = absurd (List·Memᴰ·not-nil h)
-
-      go : List·Memᴰ l (cond (isTrue? (φ .nodes) (φ .edges) (under (trueIn a)) A) (on (A .variable) ∷ []) []) ⊎ List·Memᴰ l (cond (isTrue? (φ .nodes) (φ .edges) (over (trueIn a)) A) [] (off (A .variable) ∷ [])) → Gives φ (trueIn a) l
-      go (inl h) = up (isTrue? (φ .nodes) (φ .edges) (under (trueIn a)) A) (λ t. holds A m (true-iff (φ .nodes) (φ .edges) (under (trueIn a)) A (λ e i. ok .edge e i .to-in) (ok .atom A m .from-in) .0 t)) h
-      go (inr h) = down (isTrue? (φ .nodes) (φ .edges) (over (trueIn a)) A) (λ n. fails A m (λ x. n (true-iff (φ .nodes) (φ .edges) (over (trueIn a)) A (λ e i. ok .edge e i .to-in) (ok .atom A m .from-in) .1 x))) h
+      go : (b t : Bool) → (T t → Settles φ (trueIn a) A b) → List·Memᴰ l (cond t (literalOf b (A .variable) ∷ []) []) → Gives φ (trueIn a) l
+      go b true g h = subst (λ z. Gives φ (trueIn a) z) (sym (List·Memᴰ·eq-of-singleton h)) (settled A m b (g tt))
+      go b false g h = absurd (List·Memᴰ·not-nil h)
 
   byClause-out : (C : List ℤ) → List·Memᴰ C (φ .clauses) → (l : ℤ) → List·Memᴰ l (byClause a C) → Gives φ (trueIn a) l
   byClause-out C m l k = let q = those-out _ C l k in unit C m l (q .0) (λ x i n. go x n (or-cases (eqℤ x l) (trueIn a (negℤ x)) (all-each _ C (q .1) x i)))
@@ -121,23 +115,18 @@ module _ (φ : PlanFile) (ok : Ranged φ) (a : List ℤ) where
       go : (x : ℤ) → List·Memᴰ x C → Dec (x ≡ l) → T (eqℤ x l || trueIn a (negℤ x))
       go x k (yes e) = or-left (eqℤ x l) _ (subst (λ w. T (eqℤ x w)) e (eqℤ-refl x))
       go x k (no n) = or-right (eqℤ x l) _ (others x k n)
-  gives-in l (holds A m h) =
+  gives-in l (settled A m b x) =
       Memᴰ·append-right (each (byClause a) (φ .clauses))
-      (each-in (byAtom φ a) (φ .atoms) A (on (A .variable)) m
-      (Memᴰ·append-left _ (go (isTrue? (φ .nodes) (φ .edges) (under (trueIn a)) A) (true-iff (φ .nodes) (φ .edges) (under (trueIn a)) A (λ e i. ok .edge e i .to-in) (ok .atom A m .from-in) .1 h))))
+      (each-in (byAtom φ a) (φ .atoms) A (literalOf b (A .variable)) m
+      (each-in (byVerdict φ a A) (true ∷ false ∷ []) b (literalOf b (A .variable)) (either b) (go (settles? φ (trueIn a) A b) (settled-iff A m b .1 x))))
     where
-      go : (b : Bool) → T b → List·Memᴰ (on (A .variable)) (cond b (on (A .variable) ∷ []) [])
+      either : (c : Bool) → List·Memᴰ c (true ∷ false ∷ [])
+      either true = List·Memᴰ·head refl
+      either false = List·Memᴰ·tail (List·Memᴰ·head refl)
+
+      go : (t : Bool) → T t → List·Memᴰ (literalOf b (A .variable)) (cond t (literalOf b (A .variable) ∷ []) [])
       go true t = List·Memᴰ·head refl
       go false t = absurd t
-  gives-in l (fails A m n) =
-      Memᴰ·append-right (each (byClause a) (φ .clauses))
-      (each-in (byAtom φ a) (φ .atoms) A (off (A .variable)) m
-      (Memᴰ·append-right (cond (isTrue? (φ .nodes) (φ .edges) (under (trueIn a)) A) (on (A .variable) ∷ []) [])
-      (go (isTrue? (φ .nodes) (φ .edges) (over (trueIn a)) A) (λ t. n (true-iff (φ .nodes) (φ .edges) (over (trueIn a)) A (λ e i. ok .edge e i .to-in) (ok .atom A m .from-in) .0 t)))))
-    where
-      go : (b : Bool) → (T b → ⊥) → List·Memᴰ (off (A .variable)) (cond b [] (off (A .variable) ∷ []))
-      go true h = absurd (h tt)
-      go false h = List·Memᴰ·head refl
 
 -- the first literal that is new, with what it says
 data New (a : List ℤ) (ls : List ℤ) : Option ℤ → Type 0 where
@@ -160,16 +149,16 @@ new-view a (x ∷ xs) = go (trueIn a x) (λ t. t) (λ h t. h t) (firstNew a xs) 
     go true y n o v = more (y tt) v
     go false y n o v = new x (List·Memᴰ·head refl) (n (λ t. t))
 
-pub natAbs-off : (v : ℕ) → natAbs (off v) ≡ v
-natAbs-off zero = refl
-natAbs-off (suc i) = refl
+pub literal-size : (b : Bool) (v : ℕ) → natAbs (literalOf b v) ≡ v
+literal-size true v = refl
+literal-size false zero = refl
+literal-size false (suc i) = refl
 
 -- one application of a rule: the laws that a closing loop uses
 module _ (φ : PlanFile) (ok : Ranged φ) where
   pub gives-range : (S : Literals) (l : ℤ) → Gives φ S l → (zero < natAbs l) × (natAbs l ≤ φ .variables)
   gives-range S l (unit C m z i others) = (ok .literal C m z i .low, ok .literal C m z i .high)
-  gives-range S l (holds A m h) = (ok .atom A m .low, ok .atom A m .high)
-  gives-range S l (fails A m n) = (omega (arith, natAbs-off (A .variable), ok .atom A m .low), omega (arith, natAbs-off (A .variable), ok .atom A m .high))
+  gives-range S l (settled A m b x) = (omega (arith, literal-size b (A .variable), ok .atom A m .low), omega (arith, literal-size b (A .variable), ok .atom A m .high))
 
   -- a set that contains a and obeys has what a gives
   given-in : (a R : Literals) (l : ℤ) → Gives φ a l → a ⊆ R → Obeys φ R → T (R l)

@@ -5,19 +5,23 @@ use mathlib.Core.Logic.{_⊎_, inl, inr, _↔_}
 use mathlib.Core.Bool.{Bool, true, false, not, cond, _&&_}
 use mathlib.Core.List.{List, [], _∷_, map, List·Memᴰ, List·Memᴰ·head, List·Memᴰ·tail, List·Memᴰ·cases-cons, List·Memᴰ·not-nil, Memᴰ·cast}
 use mathlib.Core.Option.{Option, none, some}
-use Prim.Native.Nat.{ℕ, zero, suc, pred, _+_, _-_, _≤_, _<_}
+use Prim.Native.Nat.{ℕ, zero, suc, _+_, _-_, _≤_, _<_}
 use native.Mathlib.Omega.{arith}
 use lib.ListN.{length, getD}
 use lib.IntN.{ℤ}
 use lib.Dec.{T, T-not, not-T, eqb, eqb→eq, eqb-refl, ltb, ltb→lt, lt→ltb}
-use Rattle.plan.specs.Meaning.{Edge, Atom, PlanFile, Graph, edge, Walk, stay, hop, Hops, IsTrueAt, IsTrue, on, off, trueIn, under, over}
+use Rattle.plan.specs.Meaning.{Edge, Atom, PlanFile, Graph, edge, Cost, Walk, stay, hop, oneHop, Hops, costOf, IsTrue, on, off, trueIn, under, over}
+use Rattle.plan.specs.Closing.{Settles}
+use Rattle.plan.specs.declared.Kind.{Kind}
+use Rattle.plan.specs.declared.Kind.the-variants.{Reaches, Within}
 use Rattle.plan.specs.Ranged.{Ranged}
-use Rattle.plan.specs.Reason.{Smallest, Nearer, Back, source, step, Rising, end, more, Listed, Across, Reason, holds, fails, neither, Cut, HoldsBy, FailsBy, ReasonIs}
+use Rattle.plan.specs.Reason.{Smallest, Nearer, Back, source, step, Rising, end, more, Listed, LeavesAt, Across, Reason, holds, fails, neither, Cut, HoldsBy, FailsBy, ReasonIs}
 use Rattle.plan.proofs.Bools.{tab, anyOf, those, and-both, and-left, and-right, any-some, some-any}
 use Rattle.plan.proofs.Walks.{le-or-lt, mem-at}
-use Rattle.plan.proofs.Levels.{reached, isTrue?, sound, complete, enough, reaches-iff, true-iff}
+use Rattle.plan.proofs.Levels.{reached, sound, complete, enough}
+use Rattle.plan.proofs.Closing.{settles?, settles-iff}
 use Rattle.plan.proofs.Exists.{those-in, those-out}
-use Rattle.plan.proofs.Reason.{further, nearest, cut-of}
+use Rattle.plan.proofs.Reason.{further, nearest, lastLevel, seen-not-beyond, unseen-beyond, cut-of}
 
 -- the numbers above b, k of them
 abbrev pub upFrom : ℕ → ℕ → List ℕ
@@ -88,6 +92,10 @@ orZero none = zero
 orZero (some k) = k
 
 -- hops, a path read back and the cut, computed
+abbrev pub leaves? : Kind → ℕ → ℕ → Bool
+leaves? Reaches d k = true
+leaves? Within d k = ltb k d
+
 module _ (n : ℕ) (es : List Edge) (f : Graph) (s : ℕ) where
   abbrev pub hops? : ℕ → ℕ → Bool
   hops? zero w = getD (reached n es f s zero) w false
@@ -104,32 +112,30 @@ module _ (n : ℕ) (es : List Edge) (f : Graph) (s : ℕ) where
   readBack zero w = []
   readBack (suc k) w = backOver (λ e. readBack k (e .from)) (firstBelow (length es) (backTest k w))
 
-  abbrev pub cut? : ℕ → ℕ → Edge → Bool
-  cut? zero d e = false
-  cut? (suc zero) d e = getD (reached n es f s (n - 1)) (e .from) false && not (getD (reached n es f s (n - 1)) (e .to) false)
-  cut? (suc (suc zero)) d e = anyOf (λ k. ltb k d && (hops? k (e .from) && not (getD (reached n es f s (suc k)) (e .to) false))) (tab n (λ k. k))
-  cut? (suc (suc (suc k))) d e = false
+  abbrev pub cutAt? : Kind → ℕ → Edge → ℕ → Bool
+  cutAt? kind d e k = hops? k (e .from) && (leaves? kind d k && not (getD (reached n es f s (lastLevel n kind (k + 1))) (e .to) false))
+
+  abbrev pub cut? : Kind → ℕ → Edge → Bool
+  cut? kind d e = anyOf (cutAt? kind d e) (tab n (λ k. k))
 
   abbrev pub hopsTo : ℕ → ℕ
   hopsTo w = orZero (firstBelow n (λ k. hops? k w))
 
-walk-zero : {es : List Edge} {g : Graph} {s w k : ℕ} → Walk es g s w k → k ≡ zero → s ≡ w
-walk-zero stay e = refl
-walk-zero (hop r d) e = absurd (omega arith)
-
--- a walk of the fewest edges has a last edge, which comes from a node one hop nearer
-pub last-nearer : {es : List Edge} {g : Graph} {s w i k : ℕ} → Walk es g s w i → i ≡ suc k → ((m : ℕ) → Walk es g s w m → suc k ≤ m) → (j : ℕ) × Nearer es g s w k j
-last-nearer stay e h = absurd (omega arith)
-last-nearer {es} {g} {s} {k = k} (hop {u = u} r d) e h = (
+-- a cheapest walk that costs something has a last edge, with which it ends
+pub last-nearer : {c : Cost} {es : List Edge} {g : Graph} {s w k : ℕ} → Walk c es g s w k → ((m : ℕ) → Walk c es g s w m → k ≤ m) → (s ≡ w × (k ≡ zero)) ⊎ ((j : ℕ) × Nearer c es g s w k j)
+last-nearer stay h = inl (refl, refl)
+last-nearer {c} {es} {g} {s} {w} {k} (hop {u = u} {j = j} r d e) h = inr (
   d .number,
   record {
     listed = d .listed;
     present = d .present;
     ends = d .ends;
+    before = j;
     near = record {
-      walk = subst (λ x. Walk es g s x k) (sym (d .starts)) (subst (λ x. Walk es g s u x) (ap pred e) r);
-      fewest = λ m v. omega (arith, h (suc m) (hop v (record { number = d .number; listed = d .listed; present = d .present; starts = refl; ends = d .ends })));
+      walk = subst (λ x. Walk c es g s x j) (sym (d .starts)) r;
+      fewest = λ m v. omega (arith, e, h (m + c (edge es (d .number))) (hop v (record { number = d .number; listed = d .listed; present = d .present; starts = refl; ends = d .ends }) refl));
     };
+    sum = e;
   },
 )
 
@@ -140,7 +146,7 @@ tab-mem (suc n) f (suc k) h = List·Memᴰ·tail (tab-mem n (λ i. f (suc i)) k 
 
 module _ (n : ℕ) (es : List Edge) (f : Graph) (s : ℕ) (inside : (e : Edge) → List·Memᴰ e es → e .to < n) (start : s < n) where
   pub hops-iff : (k w : ℕ) → T (hops? n es f s k w) ↔ Hops es f s w k
-  hops-iff zero w = ((λ t. let q = sound n es f s zero w t in record { walk = subst (λ j. Walk es f s w j) (omega (arith, q .1)) (q .2); fewest = λ j r. omega arith }), (λ h. complete n es f s inside start w zero (h .walk)))
+  hops-iff zero w = ((λ t. let q = sound n es f s zero w t in record { walk = subst (λ j. Walk oneHop es f s w j) (omega (arith, q .1)) (q .2); fewest = λ j r. omega arith }), (λ h. complete n es f s inside start w zero (h .walk)))
   hops-iff (suc k) w = (there, back)
     where
       there : T (hops? n es f s (suc k) w) → Hops es f s w (suc k)
@@ -148,16 +154,16 @@ module _ (n : ℕ) (es : List Edge) (f : Graph) (s : ℕ) (inside : (e : Edge) �
           let far : T (getD (reached n es f s k) w false) → ⊥ = λ u. T-not (getD (reached n es f s k) w false) (and-right (getD (reached n es f s (suc k)) w false) _ t) u in
           let q = sound n es f s (suc k) w (and-left (getD (reached n es f s (suc k)) w false) _ t) in
           let beyond = further n es f s inside start k w far (q .0) (q .2) in
-          record { walk = subst (λ j. Walk es f s w j) (omega (arith, q .1, beyond)) (q .2); fewest = λ j r. further n es f s inside start k w far j r }
+          record { walk = subst (λ j. Walk oneHop es f s w j) (omega (arith, q .1, beyond)) (q .2); fewest = λ j r. further n es f s inside start k w far j r }
 
       back : Hops es f s w (suc k) → T (hops? n es f s (suc k) w)
       back h = and-both (getD (reached n es f s (suc k)) w false) _ (complete n es f s inside start w (suc k) (h .walk))
           (not-T (getD (reached n es f s k) w false) (λ t. let q = sound n es f s k w t in omega (arith, q .1, h .fewest (q .0) (q .2))))
 
-  step-iff : (k w j : ℕ) → T (backTest n es f s k w j) ↔ Nearer es f s w k j
+  step-iff : (k w j : ℕ) → T (backTest n es f s k w j) ↔ Nearer oneHop es f s w (suc k) j
   step-iff k w j = (there, back)
     where
-      there : T (backTest n es f s k w j) → Nearer es f s w k j
+      there : T (backTest n es f s k w j) → Nearer oneHop es f s w (suc k) j
       there t =
           let u = and-right (ltb j (length es)) _ t in
           let v = and-right (f (edge es j)) _ u in
@@ -165,24 +171,38 @@ module _ (n : ℕ) (es : List Edge) (f : Graph) (s : ℕ) (inside : (e : Edge) �
             listed = ltb→lt j (length es) (and-left (ltb j (length es)) _ t);
             present = and-left (f (edge es j)) _ u;
             ends = eqb→eq (edge es j .to) w (and-left (eqb (edge es j .to) w) _ v);
+            before = k;
             near = hops-iff k (edge es j .from) .0 (and-right (eqb (edge es j .to) w) _ v);
+            sum = omega arith;
           }
 
-      back : Nearer es f s w k j → T (backTest n es f s k w j)
+      back : Nearer oneHop es f s w (suc k) j → T (backTest n es f s k w j)
       back q =
           and-both (ltb j (length es)) _ (lt→ltb j (length es) (q .listed))
           (and-both (f (edge es j)) _ (q .present)
-          (and-both (eqb (edge es j .to) w) _ (subst (λ x. T (eqb (edge es j .to) x)) (q .ends) (eqb-refl (edge es j .to))) (hops-iff k (edge es j .from) .1 (q .near))))
+          (and-both (eqb (edge es j .to) w) _ (subst (λ x. T (eqb (edge es j .to) x)) (q .ends) (eqb-refl (edge es j .to)))
+          (hops-iff k (edge es j .from) .1 (subst (λ i. Hops es f s (edge es j .from) i) (omega (arith, q .sum)) (q .near)))))
 
-  back-is : (k w : ℕ) → Hops es f s w k → Back es f s w k (readBack n es f s k w)
-  back-is zero w h = subst (λ x. Back es f s x zero []) (walk-zero (h .walk) refl) source
+  back-is : (k w : ℕ) → Hops es f s w k → Back oneHop es f s w k (readBack n es f s k w)
+  back-is zero w h = go (last-nearer (h .walk) (h .fewest))
+    where
+      go : (s ≡ w × (zero ≡ zero)) ⊎ ((j : ℕ) × Nearer oneHop es f s w zero j) → Back oneHop es f s w zero []
+      go (inl e) = subst (λ x. Back oneHop es f s x zero []) (e .0) source
+      go (inr q) = absurd (omega (arith, q .1 .sum))
   back-is (suc k) w h = go (back-is k) (found-view _ (backTest n es f s k w) (step-iff k w) (length es))
     where
-      go : ((v : ℕ) → Hops es f s v k → Back es f s v k (readBack n es f s k v))
-          → {o : Option ℕ} → Found (Nearer es f s w k) (length es) o
-          → Back es f s w (suc k) (backOver n es f s (λ e. readBack n es f s k (e .from)) o)
-      go r (no-such none-fits) = let q = last-nearer (h .walk) refl (h .fewest) in absurd (none-fits (q .0) (q .1 .listed) (q .1))
-      go r (such {k = j} l first) = step first (r (edge es j .from) (first .is .near))
+      some-edge : (s ≡ w × (suc k ≡ zero)) ⊎ ((j : ℕ) × Nearer oneHop es f s w (suc k) j) → (j : ℕ) × Nearer oneHop es f s w (suc k) j
+      some-edge (inl e) = absurd (omega (arith, e .1))
+      some-edge (inr q) = q
+
+      go : ((v : ℕ) → Hops es f s v k → Back oneHop es f s v k (readBack n es f s k v))
+          → {o : Option ℕ} → Found (Nearer oneHop es f s w (suc k)) (length es) o
+          → Back oneHop es f s w (suc k) (backOver n es f s (λ e. readBack n es f s k (e .from)) o)
+      go r (no-such none-fits) = let q = some-edge (last-nearer (h .walk) (h .fewest)) in absurd (none-fits (q .0) (q .1 .listed) (q .1))
+      go r (such {k = j} l first) =
+          let e : first .is .before ≡ k = omega (arith, first .is .sum) in
+          step first (subst (λ i. Back oneHop es f s (edge es j .from) i (readBack n es f s k (edge es j .from))) (sym e)
+          (r (edge es j .from) (subst (λ i. Hops es f s (edge es j .from) i) e (first .is .near))))
 
   last-hop : (k w : ℕ) → Hops es f s w k → k < n
   last-hop k w h = let q = sound n es f s (n - 1) w (enough n es f s inside start w k (h .walk)) in omega (arith, q .1, h .fewest (q .0) (q .2))
@@ -194,36 +214,35 @@ module _ (n : ℕ) (es : List Edge) (f : Graph) (s : ℕ) (inside : (e : Edge) �
       go (no-such h) = let q = nearest n es f s inside start (n - 1) w t in absurd (h (q .0) (last-hop (q .0) w (q .2)) (q .2))
       go (such l first) = first .is
 
-  cut-iff : (kind d : ℕ) (e : Edge) → T (cut? n es f s kind d e) ↔ Across kind es f d s e
-  cut-iff zero d e = ((λ t. t), (λ t. t))
-  cut-iff (suc zero) d e = (
-    (λ t. (
-      reaches-iff n es f s inside start (e .from) .0 (and-left (getD (reached n es f s (n - 1)) (e .from) false) _ t),
-      λ z. T-not (getD (reached n es f s (n - 1)) (e .to) false) (and-right (getD (reached n es f s (n - 1)) (e .from) false) _ t) (reaches-iff n es f s inside start (e .to) .1 z),
-    )),
-    (λ q. and-both (getD (reached n es f s (n - 1)) (e .from) false) _ (reaches-iff n es f s inside start (e .from) .1 (q .0))
-        (not-T (getD (reached n es f s (n - 1)) (e .to) false) (λ t. q .1 (reaches-iff n es f s inside start (e .to) .0 t)))),
-  )
-  cut-iff (suc (suc zero)) d e = (there, back)
+  leaves-iff : (kind : Kind) (d k : ℕ) → T (leaves? kind d k) ↔ LeavesAt kind d k
+  leaves-iff Reaches d k = ((λ t. t), (λ t. t))
+  leaves-iff Within d k = (ltb→lt k d, lt→ltb k d)
+
+  cut-iff : (kind : Kind) (d : ℕ) (e : Edge) → T (cut? n es f s kind d e) ↔ Across kind es f d s e
+  cut-iff kind d e = (there, back)
     where
-      there : T (cut? n es f s 2 d e) → Across 2 es f d s e
+      level : ℕ → Bool
+      level k = getD (reached n es f s (lastLevel n kind (k + 1))) (e .to) false
+
+      there : T (cut? n es f s kind d e) → Across kind es f d s e
       there t =
-          let q = any-some (λ k. ltb k d && (hops? n es f s k (e .from) && not (getD (reached n es f s (suc k)) (e .to) false))) (tab n (λ k. k)) t in
-          let u = and-right (ltb (q .0) d) _ (q .2) in (
-            q .0,
-            ltb→lt (q .0) d (and-left (ltb (q .0) d) _ (q .2)),
-            hops-iff (q .0) (e .from) .0 (and-left (hops? n es f s (q .0) (e .from)) _ u),
-            λ j h. further n es f s inside start (suc (q .0)) (e .to) (λ y. T-not (getD (reached n es f s (suc (q .0))) (e .to) false) (and-right (hops? n es f s (q .0) (e .from)) _ u) y) j (h .walk),
+          let q = any-some (cutAt? n es f s kind d e) (tab n (λ k. k)) t in
+          let k = q .0 in
+          let u = and-right (hops? n es f s k (e .from)) _ (q .2) in (
+            k,
+            hops-iff k (e .from) .0 (and-left (hops? n es f s k (e .from)) _ (q .2)),
+            leaves-iff kind d k .0 (and-left (leaves? kind d k) _ u),
+            unseen-beyond n es f s inside start kind (k + 1) (e .to) (T-not (getD (reached n es f s (lastLevel n kind (k + 1))) (e .to) false) (and-right (leaves? kind d k) _ u)),
           )
 
-      back : Across 2 es f d s e → T (cut? n es f s 2 d e)
+      back : Across kind es f d s e → T (cut? n es f s kind d e)
       back q =
-          some-any (λ k. ltb k d && (hops? n es f s k (e .from) && not (getD (reached n es f s (suc k)) (e .to) false))) (tab n (λ k. k)) (q .0)
-          (tab-mem n (λ k. k) (q .0) (last-hop (q .0) (e .from) (q .2)))
-          (and-both (ltb (q .0) d) _ (lt→ltb (q .0) d (q .1))
-          (and-both (hops? n es f s (q .0) (e .from)) _ (hops-iff (q .0) (e .from) .1 (q .2))
-          (not-T (getD (reached n es f s (suc (q .0))) (e .to) false) (λ t. let z = nearest n es f s inside start (suc (q .0)) (e .to) t in omega (arith, z .1, q .3 (z .0) (z .2))))))
-  cut-iff (suc (suc (suc k))) d e = ((λ t. t), (λ t. t))
+          let k = q .0 in
+          some-any (cutAt? n es f s kind d e) (tab n (λ k. k)) k (tab-mem n (λ k. k) k (last-hop k (e .from) (q .1)))
+          (and-both (hops? n es f s k (e .from)) _ (hops-iff k (e .from) .1 (q .1))
+          (and-both (leaves? kind d k) _ (leaves-iff kind d k .1 (q .2))
+          (not-T (getD (reached n es f s (lastLevel n kind (k + 1))) (e .to) false)
+          (λ t. let z = seen-not-beyond n es f s inside start kind (k + 1) (e .to) t in z .2 (q .3 (z .0) (z .1))))))
 
 -- the reason of an atom
 module _ (φ : PlanFile) (a : List ℤ) (A : Atom) where
@@ -235,24 +254,17 @@ module _ (φ : PlanFile) (a : List ℤ) (A : Atom) where
 
   abbrev pub reasonBy : Bool → Bool → Reason
   reasonBy true t = holds (on (A .variable) ∷ map off (those pathVar? (upFrom 0 (φ .variables))))
-  reasonBy false true = neither
-  reasonBy false false = fails (off (A .variable) ∷ map on (those cutVar? (upFrom 0 (φ .variables))))
+  reasonBy false true = fails (off (A .variable) ∷ map on (those cutVar? (upFrom 0 (φ .variables))))
+  reasonBy false false = neither
 
   unfoldable pub reason : Reason
-  reason = reasonBy (isTrue? (φ .nodes) (φ .edges) (under (trueIn a)) A) (isTrue? (φ .nodes) (φ .edges) (over (trueIn a)) A)
+  reason = reasonBy (settles? φ (trueIn a) A true) (settles? φ (trueIn a) A false)
 
   module _ (ok : Ranged φ) (start : A .from < φ .nodes) where
     inside : (e : Edge) → List·Memᴰ e (φ .edges) → e .to < φ .nodes
     inside e i = ok .edge e i .to-in
 
-    -- an atom that holds has a walk within n - 1 edges
-    level-at : (kind d : ℕ) → IsTrueAt kind (φ .edges) (under (trueIn a)) d (A .from) (A .to) → T (getD (reached (φ .nodes) (φ .edges) (under (trueIn a)) (A .from) (φ .nodes - 1)) (A .to) false)
-    level-at zero d h = absurd h
-    level-at (suc zero) d h = enough (φ .nodes) (φ .edges) (under (trueIn a)) (A .from) inside start (A .to) (h .0) (h .1 .walk)
-    level-at (suc (suc zero)) d h = enough (φ .nodes) (φ .edges) (under (trueIn a)) (A .from) inside start (A .to) (h .0) (h .1 .walk)
-    level-at (suc (suc (suc k))) d h = absurd h
-
-    path-edge : {w k : ℕ} {vs : List ℕ} → Back (φ .edges) (under (trueIn a)) (A .from) w k vs → (v : ℕ) → List·Memᴰ v vs → (zero < v) × (v ≤ φ .variables)
+    path-edge : {w k : ℕ} {vs : List ℕ} → Back (costOf (A .kind)) (φ .edges) (under (trueIn a)) (A .from) w k vs → (v : ℕ) → List·Memᴰ v vs → (zero < v) × (v ≤ φ .variables)
     path-edge source v m = absurd (List·Memᴰ·not-nil m)
     path-edge (step {j = j} {vs = vs} f b) v m = go (λ q. path-edge b v q) (List·Memᴰ·cases-cons m)
       where
@@ -263,11 +275,12 @@ module _ (φ : PlanFile) (a : List ℤ) (A : Atom) where
     holds-by : IsTrue (φ .edges) (under (trueIn a)) A → HoldsBy φ a A (on (A .variable) ∷ map off (those pathVar? (upFrom 0 (φ .variables))))
     holds-by h =
         let k = hopsTo (φ .nodes) (φ .edges) (under (trueIn a)) (A .from) (A .to) in
-        let near = hopsTo-is (φ .nodes) (φ .edges) (under (trueIn a)) (A .from) inside start (A .to) (level-at (A .kind) (A .bound) h) in
+        let near = hopsTo-is (φ .nodes) (φ .edges) (under (trueIn a)) (A .from) inside start (A .to)
+            (enough (φ .nodes) (φ .edges) (under (trueIn a)) (A .from) inside start (A .to) (h .0) (h .1 .walk)) in
         let path = back-is (φ .nodes) (φ .edges) (under (trueIn a)) (A .from) inside start k (A .to) near in
         record {
           truth = h;
-          hops = k;
+          count = k;
           path = readBack (φ .nodes) (φ .edges) (under (trueIn a)) (A .from) k (A .to);
           nearest = near;
           read = path;
@@ -310,13 +323,16 @@ module _ (φ : PlanFile) (a : List ℤ) (A : Atom) where
                   (cut-iff (φ .nodes) (φ .edges) (over (trueIn a)) (A .from) inside start (A .kind) (A .bound) e .1 (c .across)))),
             )
 
-    reasonBy-is : (x y : Bool) → (T x ↔ IsTrue (φ .edges) (under (trueIn a)) A) → (T y ↔ IsTrue (φ .edges) (over (trueIn a)) A) → ReasonIs φ a A (reasonBy x y)
+    reasonBy-is : (x y : Bool) → (T x ↔ Settles φ (trueIn a) A true) → (T y ↔ Settles φ (trueIn a) A false) → ReasonIs φ a A (reasonBy x y)
     reasonBy-is true y p q = holds-by (p .0 tt)
-    reasonBy-is false true p q = (p .1, λ n. n (q .0 tt))
-    reasonBy-is false false p q = fails-by (q .1)
+    reasonBy-is false true p q = fails-by (q .0 tt)
+    reasonBy-is false false p q = none
+      where
+        none : (b : Bool) → Settles φ (trueIn a) A b → ⊥
+        none true = p .1
+        none false = q .1
 
     -- every atom has a reason, or is open
     pub reason-is : ReasonIs φ a A reason
     unfolding reason
-    reason-is = reasonBy-is (isTrue? (φ .nodes) (φ .edges) (under (trueIn a)) A) (isTrue? (φ .nodes) (φ .edges) (over (trueIn a)) A)
-        (true-iff (φ .nodes) (φ .edges) (under (trueIn a)) A inside start) (true-iff (φ .nodes) (φ .edges) (over (trueIn a)) A inside start)
+    reason-is = reasonBy-is (settles? φ (trueIn a) A true) (settles? φ (trueIn a) A false) (settles-iff φ (trueIn a) A inside start true) (settles-iff φ (trueIn a) A inside start false)

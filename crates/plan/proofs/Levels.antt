@@ -1,4 +1,4 @@
--- The computed levels are the walks: an atom holds exactly if its test says so.
+-- Hops by levels: what is reached in so many rounds is what a walk of so many edges leads to, so an atom is true exactly if its test says so.
 -- Assumes nothing.
 use mathlib.Core.Path.{_≡_, refl, sym, subst, _∙_, ap}
 use mathlib.Core.Logic.{_⊎_, inl, inr, _↔_}
@@ -9,9 +9,12 @@ use native.Mathlib.Decide.{le-ind}
 use native.Mathlib.Omega.{arith}
 use lib.ListN.{length, getD}
 use lib.Dec.{T, eqb, eqb→eq, eqb-refl}
-use Rattle.plan.specs.Meaning.{Edge, Atom, Graph, edge, Leads, Walk, stay, hop, Reaches, Within, IsTrueAt, IsTrue}
+use Rattle.plan.specs.Meaning.{Edge, Atom, Graph, edge, Leads, Walk, stay, hop, oneHop, Allows, IsTrue}
+use Rattle.plan.specs.Written.{levelsOf, levels}
+use Rattle.plan.specs.declared.Kind.{Kind}
+use Rattle.plan.specs.declared.Kind.the-variants.{Reaches, Within}
 use Rattle.plan.proofs.Bools.{tab, anyOf, or-cases, or-left, or-right, and-both, and-left, and-right, any-some, some-any, tab-in, tab-out, tab-length}
-use Rattle.plan.proofs.Walks.{le-or-lt, its-in, leads-by, Near, reaches-walk, within-walk}
+use Rattle.plan.proofs.Walks.{le-or-lt, its-in, leads-by, true-led}
 
 -- one edge further: a node of l, or the end of a good edge that starts in l
 unfoldable pub next : ℕ → List Edge → Graph → List Bool → List Bool
@@ -21,14 +24,22 @@ unfoldable pub reached : ℕ → List Edge → Graph → ℕ → ℕ → List Bo
 reached n es f s zero = tab n (λ w. eqb s w)
 reached n es f s (suc i) = next n es f (reached n es f s i)
 
-unfoldable pub isTrueAt? : ℕ → ℕ → List Edge → Graph → ℕ → ℕ → ℕ → Bool
-isTrueAt? zero n es f d s t = false
-isTrueAt? (suc zero) n es f d s t = getD (reached n es f s (n - 1)) t false
-isTrueAt? (suc (suc zero)) n es f d s t = getD (reached n es f s (min d (n - 1))) t false
-isTrueAt? (suc (suc (suc k))) n es f d s t = false
+-- an atom's test: its target is reached at the level that the written clauses stop at, too
+unfoldable pub isTrue? : ℕ → List Edge → Graph → Atom → Bool
+isTrue? n es f A = getD (reached n es f (A .from) (levels n A)) (A .to) false
 
-abbrev pub isTrue? : ℕ → List Edge → Graph → Atom → Bool
-isTrue? n es f a = isTrueAt? (a .kind) n es f (a .bound) (a .from) (a .to)
+-- a walk of at most d edges
+abbrev pub Near : List Edge → Graph → ℕ → ℕ → ℕ → Type 0
+Near es g d s t = (k : ℕ) × (k ≤ d) × Walk oneHop es g s t k
+
+-- what the kinds allow, by the level
+pub level-allows : (kind : Kind) (n d k : ℕ) → k ≤ levelsOf n kind d → Allows kind d k
+level-allows Reaches n d k h = tt
+level-allows Within n d k h = omega arith
+
+pub allowed-level : (kind : Kind) (n d k : ℕ) → Allows kind d k → min k (n - 1) ≤ levelsOf n kind d
+allowed-level Reaches n d k h = omega arith
+allowed-level Within n d k h = omega arith
 
 -- counting a list of Bools
 count : List Bool → ℕ
@@ -123,14 +134,14 @@ module _ (n : ℕ) (es : List Edge) (f : Graph) (s : ℕ) where
   unfolding reached
   sound zero w t =
       let q = tab-out n (λ w. eqb s w) w t in
-      (zero, omega arith, subst (λ x. Walk es f s x zero) (eqb→eq s w (q .1)) stay)
+      (zero, omega arith, subst (λ x. Walk oneHop es f s x zero) (eqb→eq s w (q .1)) stay)
   sound (suc i) w t = go (sound i) (next-out n es f (reached n es f s i) w t)
     where
       go : ((v : ℕ) → T (getD (reached n es f s i) v false) → Near es f i s v)
           → T (getD (reached n es f s i) w false) ⊎ ((u : ℕ) × T (getD (reached n es f s i) u false) × Leads es f u w)
           → Near es f (suc i) s w
       go r (inl h) = let q = r w h in (q .0, omega (arith, q .1), q .2)
-      go r (inr h) = let q = r (h .0) (h .1) in (suc (q .0), omega (arith, q .1), hop (q .2) (h .2))
+      go r (inr h) = let q = r (h .0) (h .1) in (suc (q .0), omega (arith, q .1), hop {k = suc (q .0)} (q .2) (h .2) (omega arith))
 
   pub reached-length : (i : ℕ) → length (reached n es f s i) ≡ n
   unfolding reached next
@@ -150,25 +161,26 @@ module _ (n : ℕ) (es : List Edge) (f : Graph) (s : ℕ) where
   keeps i j h w t = le-ind (λ m. T (getD (reached n es f s m) w false)) t (λ m k r. keep m w r) j h
 
   module _ (inside : (e : Edge) → List·Memᴰ e es → e .to < n) (start : s < n) where
-    walk-small : (w k : ℕ) → Walk es f s w k → w < n
+    walk-small : (w k : ℕ) → Walk oneHop es f s w k → w < n
     walk-small w k stay = start
-    walk-small w k (hop r d) = subst (λ x. x < n) (d .ends) (inside (edge es (d .number)) (its-in d))
+    walk-small w k (hop r d e) = subst (λ x. x < n) (d .ends) (inside (edge es (d .number)) (its-in d))
 
     first : T (getD (reached n es f s zero) s false)
     unfolding reached
     first = tab-in n _ s start (eqb-refl s)
 
-    pub complete : (w k : ℕ) → Walk es f s w k → T (getD (reached n es f s k) w false)
+    pub complete : (w k : ℕ) → Walk oneHop es f s w k → T (getD (reached n es f s k) w false)
     unfolding reached
     complete w k stay = first
-    complete w k (hop {u = x} {k = j} r d) =
-        next-in n es f (reached n es f s j) x w (walk-small w (suc j) (hop r d)) (complete x j r) d
+    complete w k (hop {u = x} {j = j} r d e) =
+        let p : k ≡ suc j = omega arith in
+        rw p (next-in n es f (reached n es f s j) x w (walk-small w k (hop r d e)) (complete x j r) d)
 
     -- a level that stays as it is has every node that a walk leads to
-    settled : (l : List Bool) → next n es f l ≡ l → T (getD l s false) → (w k : ℕ) → Walk es f s w k → T (getD l w false)
+    settled : (l : List Bool) → next n es f l ≡ l → T (getD l s false) → (w k : ℕ) → Walk oneHop es f s w k → T (getD l w false)
     settled l e t w k stay = t
-    settled l e t w k (hop {u = x} {k = j} r d) =
-        subst (λ m. T (getD m w false)) e (next-in n es f l x w (walk-small w (suc j) (hop r d)) (settled l e t x j r) d)
+    settled l e t w k (hop {u = x} {j = j} r d p) =
+        subst (λ m. T (getD m w false)) e (next-in n es f l x w (walk-small w k (hop r d p)) (settled l e t x j r) d)
 
     -- level i has i + 1 nodes, or is the last that is new
     fills : (i : ℕ) → (suc i ≤ count (reached n es f s i)) ⊎ (next n es f (reached n es f s i) ≡ reached n es f s i)
@@ -188,7 +200,7 @@ module _ (n : ℕ) (es : List Edge) (f : Graph) (s : ℕ) where
         go (inr e) = inr (ap (next n es f) e)
 
     -- so n - 1 edges are enough
-    pub enough : (w k : ℕ) → Walk es f s w k → T (getD (reached n es f s (n - 1)) w false)
+    pub enough : (w k : ℕ) → Walk oneHop es f s w k → T (getD (reached n es f s (n - 1)) w false)
     enough w k r = go (fills (n - 1))
       where
         R : List Bool
@@ -198,31 +210,20 @@ module _ (n : ℕ) (es : List Edge) (f : Graph) (s : ℕ) where
         go (inl h) = all-true R (omega (arith, reached-length (n - 1))) w (omega (arith, reached-length (n - 1), walk-small w k r))
         go (inr e) = settled R e (keeps zero (n - 1) (omega arith) s first) w k r
 
-    pub reaches-iff : (t : ℕ) → T (getD (reached n es f s (n - 1)) t false) ↔ Reaches es f s t
-    reaches-iff t = ((λ h. let q = sound (n - 1) t h in reaches-walk es f s t .1 (q .0, q .2)), (λ q. enough t (q .0) (q .1 .walk)))
-
-    pub near-iff : (d t : ℕ) → T (getD (reached n es f s (min d (n - 1))) t false) ↔ Near es f d s t
-    near-iff d t = ((λ h. let q = sound (min d (n - 1)) t h in (q .0, omega (arith, q .1), q .2)), back)
+    -- a walk of k edges is seen at level k and later, and at level n - 1 whatever k is
+    pub by-level : (w k l : ℕ) → Walk oneHop es f s w k → min k (n - 1) ≤ l → T (getD (reached n es f s l) w false)
+    by-level w k l r h = go (le-or-lt k (n - 1))
       where
-        near : (k : ℕ) → k ≤ d → Walk es f s t k → (k ≤ n - 1) ⊎ (n - 1 < k) → T (getD (reached n es f s (min d (n - 1))) t false)
-        near k h r (inl a) = keeps k (min d (n - 1)) (omega arith) t (complete t k r)
-        near k h r (inr b) = keeps (n - 1) (min d (n - 1)) (omega arith) t (enough t k r)
-
-        back : Near es f d s t → T (getD (reached n es f s (min d (n - 1))) t false)
-        back q = near (q .0) (q .1) (q .2) (le-or-lt (q .0) (n - 1))
-
-    pub within-iff : (d t : ℕ) → T (getD (reached n es f s (min d (n - 1))) t false) ↔ Within es f d s t
-    within-iff d t = ((λ h. within-walk es f s d t .1 (near-iff d t .0 h)), (λ q. near-iff d t .1 (within-walk es f s d t .0 q)))
-
-    pub trueAt-iff : (kind d t : ℕ) → T (isTrueAt? kind n es f d s t) ↔ IsTrueAt kind es f d s t
-    unfolding isTrueAt?
-    trueAt-iff zero d t = ((λ h. h), (λ h. h))
-    trueAt-iff (suc zero) d t = reaches-iff t
-    trueAt-iff (suc (suc zero)) d t = within-iff d t
-    trueAt-iff (suc (suc (suc k))) d t = ((λ h. h), (λ h. h))
+        go : (k ≤ n - 1) ⊎ (n - 1 < k) → T (getD (reached n es f s l) w false)
+        go (inl a) = keeps k l (omega arith) w (complete w k r)
+        go (inr b) = keeps (n - 1) l (omega arith) w (enough w k r)
 
 -- an atom holds over the edges that pass the test f exactly if antt computes that it does
 pub true-iff : (n : ℕ) (es : List Edge) (f : Graph) (A : Atom)
     → ((e : Edge) → List·Memᴰ e es → e .to < n) → A .from < n
     → T (isTrue? n es f A) ↔ IsTrue es f A
-true-iff n es f A inside start = trueAt-iff n es f (A .from) inside start (A .kind) (A .bound) (A .to)
+unfolding isTrue? levels
+true-iff n es f A inside start = (
+  (λ t. let q = sound n es f (A .from) (levels n A) (A .to) t in true-led es f A .1 (q .0, q .2, level-allows (A .kind) n (A .bound) (q .0) (q .1))),
+  (λ h. by-level n es f (A .from) inside start (A .to) (h .0) (levels n A) (h .1 .walk) (allowed-level (A .kind) n (A .bound) (h .0) (h .2))),
+)

@@ -4,16 +4,18 @@ use mathlib.Core.Path.{_≡_, refl, sym, subst, subst₂, _∙_, ap, ap₂}
 use mathlib.Core.Logic.{_⊎_, inl, inr, _↔_}
 use mathlib.Core.Bool.{Bool, true, false, not}
 use mathlib.Core.List.{List, _∷_, map, List·Memᴰ, List·Memᴰ·head, List·Memᴰ·tail, List·Memᴰ·cases-cons, List·Memᴰ·not-nil}
-use Prim.Native.Nat.{ℕ, zero, suc, pred, _-_, _≤_, _<_}
+use Prim.Native.Nat.{ℕ, zero, _+_, _-_, _≤_, _<_}
 use native.Mathlib.Omega.{arith}
 use lib.ListN.{getD}
 use lib.IntN.{ℤ}
 use lib.Dec.{T, not-T}
-use Rattle.plan.specs.Meaning.{Edge, Atom, PlanFile, Graph, edge, Walk, stay, hop, Hops, IsTrueAt, IsTrue, on, off, trueIn, under, over, Full, HasTrue, IsRight}
+use Rattle.plan.specs.Meaning.{Edge, Atom, PlanFile, Graph, edge, Cost, Walk, stay, hop, Distance, oneHop, Hops, costOf, Allows, IsTrue, on, off, trueIn, under, over, Full, HasTrue, IsRight}
+use Rattle.plan.specs.declared.Kind.{Kind}
+use Rattle.plan.specs.declared.Kind.the-variants.{Reaches, Within}
 use Rattle.plan.specs.Ranged.{Ranged}
-use Rattle.plan.specs.Reason.{Smallest, Nearer, Back, source, step, Rising, end, more, Listed, Across, Reason, holds, fails, neither, Cut, HoldsBy, FailsBy, ReasonIs}
+use Rattle.plan.specs.Reason.{Smallest, Nearer, Back, source, step, Rising, end, more, Listed, LeavesAt, EndsBeyond, Across, Reason, holds, fails, neither, Cut, HoldsBy, FailsBy, ReasonIs}
 use Rattle.plan.proofs.Bools.{T?, any-or-none}
-use Rattle.plan.proofs.Walks.{le-or-lt, mem-at, at-mem, its-in, leads-by, true-mono, Joined, Near, reaches-walk, within-walk, hops-unique}
+use Rattle.plan.proofs.Walks.{le-or-lt, mem-at, at-mem, its-in, Pays, kind-pays, hop-by, true-mono, distance-of, distance-unique, allows-less, true-led}
 use Rattle.plan.proofs.Levels.{reached, sound, keeps, complete, enough}
 use Rattle.plan.proofs.Closing.{on-over, one-of}
 
@@ -26,13 +28,14 @@ smallest-one {P} {j} {k} x y = go (le-or-lt k j) (le-or-lt j k)
     go (inl a) (inr b) = absurd (x .least k b (y .is))
     go (inr a) b = absurd (y .least j a (x .is))
 
-back-one : (es : List Edge) (g : Graph) (s : ℕ) {w w′ k k′ : ℕ} {vs vs′ : List ℕ} → w ≡ w′ → k ≡ k′ → Back es g s w k vs → Back es g s w′ k′ vs′ → vs ≡ vs′
-back-one es g s e d source source = refl
-back-one es g s e d source (step f b) = absurd (omega arith)
-back-one es g s e d (step f b) source = absurd (omega arith)
-back-one es g s e d (step {w = w} {k = k} {j = j} f b) (step {w = w′} {k = k′} {j = j′} f′ b′) =
-    let q = smallest-one f (subst₂ (λ u i. Smallest (Nearer es g s u i) j′) (sym e) (sym (ap pred d)) f′) in
-    ap₂ (λ v vs. v ∷ vs) (ap (λ z. edge es z .variable) q) (back-one es g s (ap (λ z. edge es z .from) q) (ap pred d) b b′)
+back-one : (c : Cost) (es : List Edge) (g : Graph) (s : ℕ) → Pays c es → {w w′ k k′ : ℕ} {vs vs′ : List ℕ} → w ≡ w′ → k ≡ k′ → Back c es g s w k vs → Back c es g s w′ k′ vs′ → vs ≡ vs′
+back-one c es g s pays e d source source = refl
+back-one c es g s pays e d source (step {j = j} f b) = absurd (omega (arith, f .is .sum, pays (edge es j) (mem-at es _ j (f .is .listed))))
+back-one c es g s pays e d (step {j = j} f b) source = absurd (omega (arith, f .is .sum, pays (edge es j) (mem-at es _ j (f .is .listed))))
+back-one c es g s pays e d (step {j = j} f b) (step {j = j′} f′ b′) =
+    let q = smallest-one f (subst₂ (λ u i. Smallest (Nearer c es g s u i) j′) (sym e) (sym d) f′) in
+    let same = distance-unique (subst (λ z. Distance c es g s (edge es z .from) (f .is .before)) q (f .is .near)) (f′ .is .near) in
+    ap₂ (λ v vs. v ∷ vs) (ap (λ z. edge es z .variable) q) (back-one c es g s pays (ap (λ z. edge es z .from) q) same b b′)
 
 rising-above : {b : ℕ} {vs : List ℕ} → Rising b vs → (v : ℕ) → List·Memᴰ v vs → b < v
 rising-above end v m = absurd (List·Memᴰ·not-nil m)
@@ -81,7 +84,7 @@ module _ (φ : PlanFile) (a : List ℤ) (A : Atom) where
   holds-one r r′ x y = x .clause ∙ ap (λ vs. on (A .variable) ∷ map off vs) same ∙ sym (y .clause)
     where
       paths : x .path ≡ y .path
-      paths = back-one (φ .edges) (under (trueIn a)) (A .from) refl (hops-unique (φ .edges) (under (trueIn a)) (A .from) (A .to) (x .hops) (y .hops) (x .nearest) (y .nearest)) (x .read) (y .read)
+      paths = back-one (costOf (A .kind)) (φ .edges) (under (trueIn a)) (A .from) (kind-pays (A .kind) (φ .edges)) refl (distance-unique (x .nearest) (y .nearest)) (x .read) (y .read)
 
       same : x .premises ≡ y .premises
       same = listed-one _ _ (x .premises) (y .premises) (λ v. ((λ m. subst (λ p. List·Memᴰ v p) paths m), (λ m. subst (λ p. List·Memᴰ v p) (sym paths) m))) (x .listed) (y .listed)
@@ -93,22 +96,27 @@ module _ (φ : PlanFile) (a : List ℤ) (A : Atom) where
   pub reason-unique : (r r′ : Reason) → ReasonIs φ a A r → ReasonIs φ a A r′ → r ≡ r′
   reason-unique (holds r) (holds r′) x y = ap holds (holds-one r r′ x y)
   reason-unique (holds r) (fails r′) x y = absurd (y .falsity (under-over (x .truth)))
-  reason-unique (holds r) neither x y = absurd (y .0 (x .truth))
+  reason-unique (holds r) neither x y = absurd (y true (x .truth))
   reason-unique (fails r) (holds r′) x y = absurd (x .falsity (under-over (y .truth)))
   reason-unique (fails r) (fails r′) x y = ap fails (fails-one r r′ x y)
-  reason-unique (fails r) neither x y = absurd (y .1 (x .falsity))
-  reason-unique neither (holds r′) x y = absurd (x .0 (y .truth))
-  reason-unique neither (fails r′) x y = absurd (x .1 (y .falsity))
+  reason-unique (fails r) neither x y = absurd (y false (x .falsity))
+  reason-unique neither (holds r′) x y = absurd (x true (y .truth))
+  reason-unique neither (fails r′) x y = absurd (x false (y .falsity))
   reason-unique neither neither x y = refl
 
 pub mem-map : {A B : Type 0} (f : A → B) {x : A} {xs : List A} → List·Memᴰ x xs → List·Memᴰ (f x) (map f xs)
 mem-map f (List·Memᴰ·head e) = List·Memᴰ·head (ap f e)
 mem-map f (List·Memᴰ·tail m) = List·Memᴰ·tail (mem-map f m)
 
+-- by which level of n nodes a node is seen that does not end beyond `far`
+abbrev pub lastLevel : ℕ → Kind → ℕ → ℕ
+lastLevel n Reaches far = n - 1
+lastLevel n Within far = far
+
 -- hops and levels
 module _ (n : ℕ) (es : List Edge) (f : Graph) (s : ℕ) (inside : (e : Edge) → List·Memᴰ e es → e .to < n) (start : s < n) where
   -- what is not in a level is further
-  pub further : (k w : ℕ) → (T (getD (reached n es f s k) w false) → ⊥) → (j : ℕ) → Walk es f s w j → k < j
+  pub further : (k w : ℕ) → (T (getD (reached n es f s k) w false) → ⊥) → (j : ℕ) → Walk oneHop es f s w j → k < j
   further k w h j r = go (le-or-lt j k)
     where
       go : (j ≤ k) ⊎ (k < j) → k < j
@@ -117,76 +125,87 @@ module _ (n : ℕ) (es : List Edge) (f : Graph) (s : ℕ) (inside : (e : Edge) �
 
   -- what is in a level has its hops
   pub nearest : (j w : ℕ) → T (getD (reached n es f s j) w false) → (k : ℕ) × (k ≤ j) × Hops es f s w k
-  nearest zero w t = let q = sound n es f s zero w t in (q .0, q .1, record { walk = q .2; fewest = λ i r. omega (arith, q .1) })
-  nearest (suc j) w t = go (T? (getD (reached n es f s j) w false)) (nearest j w)
-    where
-      go : T (getD (reached n es f s j) w false) ⊎ (T (getD (reached n es f s j) w false) → ⊥)
-          → (T (getD (reached n es f s j) w false) → (k : ℕ) × (k ≤ j) × Hops es f s w k) → (k : ℕ) × (k ≤ suc j) × Hops es f s w k
-      go (inl h) r = let q = r h in (q .0, omega (arith, q .1), q .2)
-      go (inr h) r = let q = sound n es f s (suc j) w t in (q .0, q .1, record { walk = q .2; fewest = λ i u. omega (arith, q .1, further j w h i u) })
+  nearest j w t =
+      let q = sound n es f s j w t in
+      let h = distance-of oneHop es f s (λ e m. omega arith) w (q .0) (q .2) in
+      (h .0, omega (arith, h .2, q .1), h .1)
 
-  level-of : (d w : ℕ) → Near es f d s w → T (getD (reached n es f s d) w false)
-  level-of d w q = keeps n es f s (q .0) d (q .1) w (complete n es f s inside start w (q .0) (q .2))
+  pub seen-not-beyond : (kind : Kind) (far w : ℕ) → T (getD (reached n es f s (lastLevel n kind far)) w false)
+      → (j : ℕ) × Distance (costOf kind) es f s w j × (EndsBeyond kind far j → ⊥)
+  seen-not-beyond Reaches far w t = let q = nearest (n - 1) w t in (q .0, q .2, λ z. z)
+  seen-not-beyond Within far w t = let q = nearest far w t in (q .0, q .2, λ z. omega (arith, q .1))
+
+  pub unseen-beyond : (kind : Kind) (far w : ℕ) → (T (getD (reached n es f s (lastLevel n kind far)) w false) → ⊥)
+      → (j : ℕ) → Distance (costOf kind) es f s w j → EndsBeyond kind far j
+  unseen-beyond Reaches far w h j x = h (enough n es f s inside start w j (x .walk))
+  unseen-beyond Within far w h j x = further far w h j (x .walk)
 
   -- a walk over other edges stays within what these reach, unless it takes an edge that leads across
-  module _ (g : Graph) (d : ℕ) where
-    abbrev Shut : ℕ → Type 0
-    Shut kind = (e : Edge) → List·Memᴰ e es → T (not (f e)) → Across kind es f d s e → T (g e) → ⊥
+  module _ (g : Graph) (kind : Kind) (d : ℕ) (shut : (e : Edge) → List·Memᴰ e es → T (not (f e)) → Across kind es f d s e → T (g e) → ⊥) where
+    -- a walk to w that is no further than k
+    abbrev Kept : ℕ → ℕ → Type 0
+    Kept w k = (i : ℕ) × Walk (costOf kind) es f s w i × (EndsBeyond kind k i → ⊥)
 
-    reaches-on : Shut 1 → (e : Edge) → List·Memᴰ e es → T (g e) → Joined es f s (e .from) → Joined es f s (e .to)
-    reaches-on shut e m x q = go (T? (f e))
+    kept-on : (e : Edge) → List·Memᴰ e es → T (g e) → (j : ℕ) → Allows kind d (j + costOf kind e) → Kept (e .from) j → Kept (e .to) (j + costOf kind e)
+    kept-on e m x j l q = go (T? (f e))
       where
-        last : T (not (f e)) → T (getD (reached n es f s (n - 1)) (e .to) false) ⊎ (T (getD (reached n es f s (n - 1)) (e .to) false) → ⊥) → Joined es f s (e .to)
-        last o (inl y) = let z = sound n es f s (n - 1) (e .to) y in (z .0, z .2)
-        last o (inr y) = absurd (shut e m o (reaches-walk es f s (e .from) .1 q, λ z. y (enough n es f s inside start (e .to) (z .0) (z .1 .walk))) x)
+        add : (kind : Kind) (i k : ℕ) → i ≤ k → (EndsBeyond kind j k → ⊥) → EndsBeyond kind (j + 1) (i + 1) → ⊥
+        add Reaches i k l n z = z
+        add Within i k l n z = omega arith
 
-        go : T (f e) ⊎ (T (f e) → ⊥) → Joined es f s (e .to)
-        go (inl y) = (suc (q .0), hop (q .1) (leads-by e m y))
-        go (inr y) = last (not-T (f e) y) (T? (getD (reached n es f s (n - 1)) (e .to) false))
+        through : (kind : Kind) (far i : ℕ) → (EndsBeyond kind far i → ⊥) → (EndsBeyond kind (j + 1) far → ⊥) → EndsBeyond kind (j + 1) i → ⊥
+        through Reaches far i n o z = z
+        through Within far i n o z = omega arith
 
-    reaches-all : Shut 1 → (w k : ℕ) → Walk es g s w k → Joined es f s w
-    reaches-all shut w k stay = (zero, stay)
-    reaches-all shut w k (hop {u = u} {k = j} r x) =
-        subst (λ z. Joined es f s z) (x .ends)
-        (reaches-on shut (edge es (x .number)) (its-in x) (x .present) (subst (λ z. Joined es f s z) (sym (x .starts)) (reaches-all shut u j r)))
+        leaves : (kind : Kind) (i k : ℕ) → i ≤ k → (EndsBeyond kind j k → ⊥) → Allows kind d (j + 1) → LeavesAt kind d i
+        leaves Reaches i k l n h = tt
+        leaves Within i k l n h = omega arith
 
-    near-on : Shut 2 → (j : ℕ) → j < d → (e : Edge) → List·Memᴰ e es → T (g e) → Near es f j s (e .from) → Near es f (suc j) s (e .to)
-    near-on shut j l e m x q = go (T? (f e)) (nearest j (e .from) (level-of j (e .from) q))
+        last : T (not (f e)) → (h : (i : ℕ) × Distance (costOf kind) es f s (e .from) i × (i ≤ q .0))
+            → T (getD (reached n es f s (lastLevel n kind (h .0 + 1))) (e .to) false) ⊎ (T (getD (reached n es f s (lastLevel n kind (h .0 + 1))) (e .to) false) → ⊥) → Kept (e .to) (j + 1)
+        last o h (inl z) =
+            let y = seen-not-beyond kind (h .0 + 1) (e .to) z in
+            (y .0, y .1 .walk, through kind (h .0 + 1) (y .0) (y .2) (add kind (h .0) (q .0) (h .2) (q .2)))
+        last o h (inr z) = absurd (shut e m o (h .0, h .1, leaves kind (h .0) (q .0) (h .2) (q .2) l, unseen-beyond kind (h .0 + 1) (e .to) z) x)
+
+        go : T (f e) ⊎ (T (f e) → ⊥) → Kept (e .to) (j + 1)
+        go (inl y) = (q .0 + 1, hop-by e m y (q .1) refl, add kind (q .0) (q .0) (omega arith) (q .2))
+        go (inr y) =
+            let h = distance-of (costOf kind) es f s (kind-pays kind es) (e .from) (q .0) (q .1) in
+            last (not-T (f e) y) h (T? (getD (reached n es f s (lastLevel n kind (h .0 + 1))) (e .to) false))
+
+    kept-all : (w k : ℕ) → Walk (costOf kind) es g s w k → Allows kind d k → Kept w k
+    kept-all w k stay l = (zero, stay, none kind)
       where
-        last : T (not (f e)) → (k : ℕ) → k ≤ j → Hops es f s (e .from) k
-            → T (getD (reached n es f s (suc k)) (e .to) false) ⊎ (T (getD (reached n es f s (suc k)) (e .to) false) → ⊥) → Near es f (suc j) s (e .to)
-        last o k p y (inl z) = let w = sound n es f s (suc k) (e .to) z in (w .0, omega (arith, w .1), w .2)
-        last o k p y (inr z) = absurd (shut e m o (k, omega arith, y, λ i v. further (suc k) (e .to) z i (v .walk)) x)
+        none : (kind : Kind) → EndsBeyond kind zero zero → ⊥
+        none Reaches z = z
+        none Within z = omega arith
+    kept-all w k (hop {u = u} {j = j} r x p) l =
+        subst₂ (λ y z. Kept y z) (x .ends) (sym p)
+        (kept-on (edge es (x .number)) (its-in x) (x .present) j (subst (λ z. Allows kind d z) p l)
+        (subst (λ y. Kept y j) (sym (x .starts)) (kept-all u j r (allows-less kind d j k (omega arith) l))))
 
-        go : T (f e) ⊎ (T (f e) → ⊥) → (k : ℕ) × (k ≤ j) × Hops es f s (e .from) k → Near es f (suc j) s (e .to)
-        go (inl y) z = (suc (q .0), omega (arith, q .1), hop (q .2) (leads-by e m y))
-        go (inr y) z = last (not-T (f e) y) (z .0) (z .1) (z .2) (T? (getD (reached n es f s (suc (z .0))) (e .to) false))
-
-    near-all : Shut 2 → (w k : ℕ) → Walk es g s w k → k ≤ d → Near es f k s w
-    near-all shut w k stay l = (zero, omega arith, stay)
-    near-all shut w k (hop {u = u} {k = j} r x) l =
-        subst (λ z. Near es f (suc j) s z) (x .ends)
-        (near-on shut j (omega arith) (edge es (x .number)) (its-in x) (x .present) (subst (λ z. Near es f j s z) (sym (x .starts)) (near-all shut u j r (omega arith))))
-
-    crossing : (kind : ℕ) → Shut kind → (t : ℕ) → IsTrueAt kind es g d s t → IsTrueAt kind es f d s t
-    crossing zero shut t h = h
-    crossing (suc zero) shut t h = reaches-walk es f s t .1 (reaches-all shut t (h .0) (h .1 .walk))
-    crossing (suc (suc zero)) shut t h = let q = near-all shut t (h .0) (h .1 .walk) (h .2) in within-walk es f s d t .1 (q .0, omega (arith, q .1, h .2), q .2)
-    crossing (suc (suc (suc k))) shut t h = h
+crossing : (n : ℕ) (es : List Edge) (f g : Graph) (A : Atom) → ((e : Edge) → List·Memᴰ e es → e .to < n) → A .from < n
+    → ((e : Edge) → List·Memᴰ e es → T (not (f e)) → Across (A .kind) es f (A .bound) (A .from) e → T (g e) → ⊥) → IsTrue es g A → IsTrue es f A
+crossing n es f g A inside start shut h =
+    let q = kept-all n es f (A .from) inside start g (A .kind) (A .bound) shut (A .to) (h .0) (h .1 .walk) (h .2) in
+    true-led es f A .1 (q .0, q .1, allowed (A .kind) (A .bound) (h .0) (q .0) (q .2) (h .2))
+  where
+    allowed : (kind : Kind) (d k i : ℕ) → (EndsBeyond kind k i → ⊥) → Allows kind d k → Allows kind d i
+    allowed Reaches d k i n l = tt
+    allowed Within d k i n l = omega arith
 
 -- the edges of a path that is read back are a walk
-back-walk : (es : List Edge) (f g : Graph) (s : ℕ) {w k : ℕ} {vs : List ℕ} → Back es f s w k vs
-    → ((e : Edge) → List·Memᴰ e es → List·Memᴰ (e .variable) vs → T (g e)) → Walk es g s w k
-back-walk es f g s source h = stay
-back-walk es f g s (step {j = j} p b) h =
-    hop (back-walk es f g s b (λ x m i. h x m (List·Memᴰ·tail i)))
+back-walk : (c : Cost) (es : List Edge) (f g : Graph) (s : ℕ) {w k : ℕ} {vs : List ℕ} → Back c es f s w k vs
+    → ((e : Edge) → List·Memᴰ e es → List·Memᴰ (e .variable) vs → T (g e)) → Walk c es g s w k
+back-walk c es f g s source h = stay
+back-walk c es f g s (step {j = j} p b) h =
+    hop (back-walk c es f g s b (λ x m i. h x m (List·Memᴰ·tail i)))
     (record { number = j; listed = p .is .listed; present = h (edge es j) (mem-at es _ j (p .is .listed)) (List·Memᴰ·head refl); starts = refl; ends = p .is .ends })
+    (p .is .sum)
 
-by-walk : (es : List Edge) (f g : Graph) (kind d s t k : ℕ) → IsTrueAt kind es f d s t → Hops es f s t k → Walk es g s t k → IsTrueAt kind es g d s t
-by-walk es f g zero d s t k h x r = h
-by-walk es f g (suc zero) d s t k h x r = reaches-walk es g s t .1 (k, r)
-by-walk es f g (suc (suc zero)) d s t k h x r = within-walk es g s d t .1 (k, omega (arith, x .fewest (h .0) (h .1 .walk), h .2), r)
-by-walk es f g (suc (suc (suc j))) d s t k h x r = h
+by-walk : (es : List Edge) (f g : Graph) (A : Atom) (k : ℕ) → IsTrue es f A → Distance (costOf (A .kind)) es f (A .from) (A .to) k → Walk (costOf (A .kind)) es g (A .from) (A .to) k → IsTrue es g A
+by-walk es f g A k h x r = true-led es g A .1 (k, r, subst (λ z. Allows (A .kind) (A .bound) z) (distance-unique (h .1) x) (h .2))
 
 pub not-not : (b : Bool) → T (not (not b)) → T b
 not-not true t = tt
@@ -216,8 +235,8 @@ module _ (φ : PlanFile) (ok : Ranged φ) (a : List ℤ) (A : Atom) (m : List·M
       go (inr n) = (
         on (A .variable),
         List·Memᴰ·head refl,
-        right .1 (by-walk (φ .edges) (under (trueIn a)) (under (trueIn b)) (A .kind) (A .bound) (A .from) (A .to) (x .hops) (x .truth) (x .nearest)
-            (back-walk (φ .edges) (under (trueIn a)) (under (trueIn b)) (A .from) (x .read) (each n))),
+        right .1 (by-walk (φ .edges) (under (trueIn a)) (under (trueIn b)) A (x .count) (x .truth) (x .nearest)
+            (back-walk (costOf (A .kind)) (φ .edges) (under (trueIn a)) (under (trueIn b)) (A .from) (x .read) (each n))),
       )
 
   pub fails-true : (r : List ℤ) → FailsBy φ a A r → HasTrue b r
@@ -230,7 +249,6 @@ module _ (φ : PlanFile) (ok : Ranged φ) (a : List ℤ) (A : Atom) (m : List·M
       go (inr t) q = (off (A .variable), List·Memᴰ·head refl, t)
       go (inl t) (inl q) = (on (q .0), List·Memᴰ·tail (mem-map on (q .1)), q .2)
       go (inl t) (inr n) = absurd (x .falsity
-          (crossing (φ .nodes) (φ .edges) (over (trueIn a)) (A .from) (λ e i. ok .edge e i .to-in) (ok .atom A m .from-in)
-          (under (trueIn b)) (A .bound) (A .kind)
+          (crossing (φ .nodes) (φ .edges) (over (trueIn a)) (under (trueIn b)) A (λ e i. ok .edge e i .to-in) (ok .atom A m .from-in)
           (λ e i o c u. n (e .variable) (x .listed .exact (e .variable) .1 (cut-of φ a A e i (not-not (trueIn a (off (e .variable))) o) c)) u)
-          (A .to) (right .0 t)))
+          (right .0 t)))

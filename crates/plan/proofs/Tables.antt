@@ -9,7 +9,7 @@ use native.Mathlib.Omega.{arith}
 use lib.ListN.{length, getD, length-append, List·getD-append}
 use lib.Seq.{getD-append-add}
 use lib.IntN.{ℤ, pos, negsuc}
-use Rattle.plan.specs.Meaning.{Edge, Atom}
+use Rattle.plan.specs.Meaning.{Edge, Atom, kindOf}
 use Rattle.plan.specs.Ranged.{literals}
 use Rattle.plan.specs.Written.{flat}
 use Rattle.plan.specs.Tables.{edgesOf, atomsOf, inFront, clausesOf}
@@ -65,7 +65,7 @@ atoms-length (k ∷ f ∷ t ∷ d ∷ v ∷ r) (suc n) h = ap suc (atoms-length 
 
 -- atom k stands at place 5k
 pub atoms-at : (l : List ℕ) (k : ℕ) (z : Atom) → k * 5 + 4 < length l
-    → getD (atomsOf l) k z ≡ record { kind = getD l (k * 5) 0; from = getD l (k * 5 + 1) 0; to = getD l (k * 5 + 2) 0; bound = getD l (k * 5 + 3) 0; variable = getD l (k * 5 + 4) 0 }
+    → getD (atomsOf l) k z ≡ record { kind = kindOf (getD l (k * 5) 0); from = getD l (k * 5 + 1) 0; to = getD l (k * 5 + 2) 0; bound = getD l (k * 5 + 3) 0; variable = getD l (k * 5 + 4) 0 }
 unfolding atomsOf
 atoms-at [] k z h = absurd (omega arith)
 atoms-at (q ∷ []) k z h = absurd (omega arith)
@@ -76,7 +76,7 @@ atoms-at (q ∷ f ∷ t ∷ d ∷ v ∷ r) zero z h = refl
 atoms-at (q ∷ f ∷ t ∷ d ∷ v ∷ r) (suc k) z h =
     atoms-at r k z (omega arith)
     ∙ (λ i. record {
-      kind = on (k * 5) (suc k * 5) (omega arith) i;
+      kind = kindOf (on (k * 5) (suc k * 5) (omega arith) i);
       from = on (k * 5 + 1) (suc k * 5 + 1) (omega arith) i;
       to = on (k * 5 + 2) (suc k * 5 + 2) (omega arith) i;
       bound = on (k * 5 + 3) (suc k * 5 + 3) (omega arith) i;

@@ -1,15 +1,17 @@
--- Walks: edges by number and by membership, larger graphs, and that a walk has a shortest one beside it.
+-- Walks, whatever their edges cost: edges by number and by membership, larger graphs, and that a walk has a cheapest one beside it.
 -- Assumes nothing.
-use mathlib.Core.Path.{_≡_, refl, sym, subst}
+use mathlib.Core.Path.{_≡_, refl, sym, subst, subst₂, _∙_, ap}
 use mathlib.Core.Logic.{_⊎_, inl, inr, _↔_}
-use mathlib.Core.Bool.{Bool, _&&_}
+use mathlib.Core.Bool.{Bool, _&&_, _||_}
 use mathlib.Core.List.{List, [], _∷_, List·Memᴰ, List·Memᴰ·head, List·Memᴰ·tail, List·Memᴰ·cases-cons, List·Memᴰ·not-nil}
-use Prim.Native.Nat.{ℕ, zero, suc, _≤_, _<_}
+use Prim.Native.Nat.{ℕ, zero, suc, _+_, _-_, _≤_, _<_}
 use native.Mathlib.Omega.{arith}
 use lib.ListN.{length, getD}
-use lib.Dec.{T, eqb, eqb→eq, eqb-refl, leb, leb→le, nleb→lt, not-T}
-use Rattle.plan.specs.Meaning.{Edge, Atom, Graph, edge, Leads, Walk, stay, hop, Hops, Reaches, Within, IsTrueAt, IsTrue}
-use Rattle.plan.proofs.Bools.{T?, anyOf, and-both, and-left, and-right, any-some, some-any}
+use lib.Dec.{T, eqb, eqb→eq, eqb-refl, leb, leb→le, le→leb, nleb→lt, not-T}
+use Rattle.plan.specs.Meaning.{Edge, Atom, Graph, edge, Leads, Cost, Walk, stay, hop, Distance, costOf, Allows, IsTrue}
+use Rattle.plan.specs.declared.Kind.{Kind}
+use Rattle.plan.specs.declared.Kind.the-variants.{Reaches, Within}
+use Rattle.plan.proofs.Bools.{T?, anyOf, or-cases, or-left, or-right, and-both, and-left, and-right, any-some, some-any}
 
 pub le-or-lt : (m n : ℕ) → (m ≤ n) ⊎ (n < m)
 le-or-lt m n = go (T? (leb m n))
@@ -61,77 +63,114 @@ module _ {es : List Edge} {g : Graph} where
       subst (λ x. Leads es g (x .from) (x .to)) (sym (q .2)) (record { number = q .0; listed = q .1; present = subst (λ x. T (g x)) (q .2) t; starts = refl; ends = refl })
 
 -- more edges, more walks
-module _ (es : List Edge) {f g : Graph} (h : (e : Edge) → List·Memᴰ e es → T (f e) → T (g e)) where
+module _ (c : Cost) (es : List Edge) {f g : Graph} (h : (e : Edge) → List·Memᴰ e es → T (f e) → T (g e)) where
   leads-mono : {u w : ℕ} → Leads es f u w → Leads es g u w
   leads-mono d = record { number = d .number; listed = d .listed; present = h (edge es (d .number)) (its-in d) (d .present); starts = d .starts; ends = d .ends }
 
-  pub walk-mono : {s w k : ℕ} → Walk es f s w k → Walk es g s w k
+  pub walk-mono : {s w k : ℕ} → Walk c es f s w k → Walk c es g s w k
+  unfolding leads-mono
   walk-mono stay = stay
-  walk-mono (hop r d) = hop (walk-mono r) (leads-mono d)
+  walk-mono (hop r d e) = hop (walk-mono r) (leads-mono d) e
 
--- a walk, and one of at most d edges
-abbrev pub Joined : List Edge → Graph → ℕ → ℕ → Type 0
-Joined es g s t = (k : ℕ) × Walk es g s t k
+-- every edge costs something
+abbrev pub Pays : Cost → List Edge → Type 0
+Pays c es = (e : Edge) → List·Memᴰ e es → 1 ≤ c e
 
-abbrev pub Near : List Edge → Graph → ℕ → ℕ → ℕ → Type 0
-Near es g d s t = (k : ℕ) × (k ≤ d) × Walk es g s t k
+pub kind-pays : (kind : Kind) (es : List Edge) → Pays (costOf kind) es
+kind-pays kind es e m = omega arith
 
-module _ (es : List Edge) (g : Graph) (s : ℕ) where
-  -- whether a walk of k edges leads to w
-  walks? : ℕ → ℕ → Bool
-  walks? zero w = eqb s w
-  walks? (suc k) w = anyOf (λ e. g e && (eqb (e .to) w && walks? k (e .from))) es
+-- a walk by its last edge, which the list has
+pub hop-by : {c : Cost} {es : List Edge} {g : Graph} {s j k : ℕ} (e : Edge) → List·Memᴰ e es → T (g e) → Walk c es g s (e .from) j → k ≡ j + c e → Walk c es g s (e .to) k
+hop-by {c} {es} {g} {s} {j} {k} e m t r q =
+    let p = at-mem es (record { from = 0; to = 0; variable = 0 }) e m in
+    let d : Leads es g (e .from) (e .to) = record {
+      number = p .0;
+      listed = p .1;
+      present = subst (λ x. T (g x)) (p .2) t;
+      starts = ap (λ x. x .from) (sym (p .2));
+      ends = ap (λ x. x .to) (sym (p .2));
+    } in
+    hop r d (q ∙ ap (λ x. j + c x) (p .2))
 
-  walks-out : (k w : ℕ) → T (walks? k w) → Walk es g s w k
+module _ (c : Cost) (es : List Edge) (g : Graph) (s : ℕ) (pays : Pays c es) where
+  -- whether a walk that costs k leads to w; so many edges at the most are tried
+  walks? : ℕ → ℕ → ℕ → Bool
+  walks? zero k w = eqb k 0 && eqb s w
+  walks? (suc n) k w = (eqb k 0 && eqb s w) || anyOf (λ e. g e && (eqb (e .to) w && (leb (c e) k && walks? n (k - c e) (e .from)))) es
+
+  stays : (k w : ℕ) → T (eqb k 0 && eqb s w) → Walk c es g s w k
+  stays k w t =
+      subst₂ (λ x y. Walk c es g s x y) (eqb→eq s w (and-right (eqb k 0) _ t)) (sym (eqb→eq k 0 (and-left (eqb k 0) _ t))) stay
+
+  walks-out : (n k w : ℕ) → T (walks? n k w) → Walk c es g s w k
   unfolding walks?
-  walks-out zero w t = subst (λ x. Walk es g s x zero) (eqb→eq s w t) stay
-  walks-out (suc k) w t = go (any-some (λ e. g e && (eqb (e .to) w && walks? k (e .from))) es t) (λ e. walks-out k (e .from))
+  walks-out zero k w t = stays k w t
+  walks-out (suc n) k w t = go (λ e. walks-out n (k - c e) (e .from)) (or-cases (eqb k 0 && eqb s w) _ t)
     where
-      go : (e : Edge) × List·Memᴰ e es × T (g e && (eqb (e .to) w && walks? k (e .from))) → ((e : Edge) → T (walks? k (e .from)) → Walk es g s (e .from) k) → Walk es g s w (suc k)
-      go q r =
+      test : Edge → Bool
+      test e = g e && (eqb (e .to) w && (leb (c e) k && walks? n (k - c e) (e .from)))
+
+      go : ((e : Edge) → T (walks? n (k - c e) (e .from)) → Walk c es g s (e .from) (k - c e)) → T (eqb k 0 && eqb s w) ⊎ T (anyOf test es) → Walk c es g s w k
+      go r (inl h) = stays k w h
+      go r (inr h) =
+          let q = any-some test es h in
           let e = q .0 in
           let u = and-right (g e) _ (q .2) in
-          subst (λ x. Walk es g s x (suc k)) (eqb→eq (e .to) w (and-left (eqb (e .to) w) _ u))
-          (hop (r e (and-right (eqb (e .to) w) _ u)) (leads-by e (q .1) (and-left (g e) _ (q .2))))
+          let v = and-right (eqb (e .to) w) _ u in
+          subst (λ x. Walk c es g s x k) (eqb→eq (e .to) w (and-left (eqb (e .to) w) _ u))
+          (hop-by e (q .1) (and-left (g e) _ (q .2)) (r e (and-right (leb (c e) k) _ v)) (omega (arith, leb→le (c e) k (and-left (leb (c e) k) _ v))))
 
-  walks-in : {w k : ℕ} → Walk es g s w k → T (walks? k w)
+  walks-in : {w k : ℕ} → Walk c es g s w k → (n : ℕ) → k ≤ n → T (walks? n k w)
   unfolding walks?
-  walks-in stay = eqb-refl s
-  walks-in {w} (hop {k = k} r d) =
-      let e = edge es (d .number) in
-      some-any (λ e. g e && (eqb (e .to) w && walks? k (e .from))) es e (its-in d)
-      (and-both (g e) _ (d .present)
-      (and-both (eqb (e .to) w) _ (subst (λ x. T (eqb (e .to) x)) (d .ends) (eqb-refl (e .to)))
-      (subst (λ x. T (walks? k x)) (sym (d .starts)) (walks-in r))))
-
-  -- where there is a walk there is a hop count
-  pub hops-of : (w k : ℕ) → Walk es g s w k → (j : ℕ) × Hops es g s w j × (j ≤ k)
-  hops-of w k r = go (smallest-below (λ j. walks? j w) (suc k))
+  walks-in stay zero h = eqb-refl s
+  walks-in stay (suc n) h = or-left (eqb s s) _ (eqb-refl s)
+  walks-in {w} {k} (hop {u = u} {j = j} r d p) n h = go n h (λ m l. walks-in r m l)
     where
-      go : ((j : ℕ) × (j < suc k) × T (walks? j w) × ((i : ℕ) → i < j → T (walks? i w) → ⊥)) ⊎ ((j : ℕ) → j < suc k → T (walks? j w) → ⊥) → (j : ℕ) × Hops es g s w j × (j ≤ k)
-      go (inl q) = (q .0, record { walk = walks-out (q .0) w (q .2); fewest = λ i v. least i v (le-or-lt (q .0) i) }, omega (arith, q .1))
+      e : Edge
+      e = edge es (d .number)
+
+      go : (n : ℕ) → k ≤ n → ((m : ℕ) → j ≤ m → T (walks? m j u)) → T (walks? n k w)
+      go zero h q = absurd (omega (arith, p, pays e (its-in d)))
+      go (suc n) h q =
+          let l = pays e (its-in d) in
+          or-right (eqb k 0 && eqb s w) _
+          (some-any (λ e. g e && (eqb (e .to) w && (leb (c e) k && walks? n (k - c e) (e .from)))) es e (its-in d)
+          (and-both (g e) _ (d .present)
+          (and-both (eqb (e .to) w) _ (subst (λ x. T (eqb (e .to) x)) (d .ends) (eqb-refl (e .to)))
+          (and-both (leb (c e) k) _ (le→leb (c e) k (omega arith))
+          (subst₂ (λ x y. T (walks? n x y)) (omega arith) (sym (d .starts)) (q n (omega arith)))))))
+
+  -- where there is a walk there is a distance
+  pub distance-of : (w k : ℕ) → Walk c es g s w k → (j : ℕ) × Distance c es g s w j × (j ≤ k)
+  distance-of w k r = go (smallest-below (λ j. walks? k j w) (suc k))
+    where
+      go : ((j : ℕ) × (j < suc k) × T (walks? k j w) × ((i : ℕ) → i < j → T (walks? k i w) → ⊥)) ⊎ ((j : ℕ) → j < suc k → T (walks? k j w) → ⊥) → (j : ℕ) × Distance c es g s w j × (j ≤ k)
+      go (inl q) = (q .0, record { walk = walks-out k (q .0) w (q .2); fewest = λ i v. least i v (le-or-lt (q .0) i) }, omega (arith, q .1))
         where
-          least : (i : ℕ) → Walk es g s w i → (q .0 ≤ i) ⊎ (i < q .0) → q .0 ≤ i
+          least : (i : ℕ) → Walk c es g s w i → (q .0 ≤ i) ⊎ (i < q .0) → q .0 ≤ i
           least i v (inl l) = l
-          least i v (inr l) = absurd (q .3 i l (walks-in v))
-      go (inr none) = absurd (none k (omega arith) (walks-in r))
+          least i v (inr l) = absurd (q .3 i l (walks-in v k (omega (arith, q .1))))
+      go (inr none) = absurd (none k (omega arith) (walks-in r k (omega arith)))
 
-  pub reaches-walk : (t : ℕ) → Reaches es g s t ↔ Joined es g s t
-  reaches-walk t = ((λ q. (q .0, q .1 .walk)), (λ q. let h = hops-of t (q .0) (q .1) in (h .0, h .1)))
+pub distance-unique : {c : Cost} {es : List Edge} {g : Graph} {s t j k : ℕ} → Distance c es g s t j → Distance c es g s t k → j ≡ k
+distance-unique {j = j} {k = k} x y = omega (arith, x .fewest k (y .walk), y .fewest j (x .walk))
 
-  pub within-walk : (d t : ℕ) → Within es g d s t ↔ Near es g d s t
-  within-walk d t = ((λ q. (q .0, q .2, q .1 .walk)), (λ q. let h = hops-of t (q .0) (q .2) in (h .0, h .1, omega (arith, h .2, q .1))))
+-- what is allowed of a count is allowed of a smaller one
+pub allows-less : (kind : Kind) (d j k : ℕ) → j ≤ k → Allows kind d k → Allows kind d j
+allows-less Reaches d j k l h = tt
+allows-less Within d j k l h = omega arith
 
-pub hops-unique : (es : List Edge) (g : Graph) (s t j k : ℕ) → Hops es g s t j → Hops es g s t k → j ≡ k
-hops-unique es g s t j k x y = omega (arith, x .fewest k (y .walk), y .fewest j (x .walk))
+-- an atom is true exactly if some walk to its target costs what is allowed
+module _ (es : List Edge) (g : Graph) (A : Atom) where
+  abbrev pub Led : Type 0
+  Led = (k : ℕ) × Walk (costOf (A .kind)) es g (A .from) (A .to) k × Allows (A .kind) (A .bound) k
+
+  pub true-led : IsTrue es g A ↔ Led
+  true-led = (
+    (λ q. (q .0, q .1 .walk, q .2)),
+    (λ q. let h = distance-of (costOf (A .kind)) es g (A .from) (kind-pays (A .kind) es) (A .to) (q .0) (q .1) in (h .0, h .1, allows-less (A .kind) (A .bound) (h .0) (q .0) (h .2) (q .2))),
+  )
 
 -- what is true in a graph is true in a larger one
-module _ (es : List Edge) (f g : Graph) (h : (e : Edge) → List·Memᴰ e es → T (f e) → T (g e)) where
-  pub trueAt-mono : (kind d s t : ℕ) → IsTrueAt kind es f d s t → IsTrueAt kind es g d s t
-  trueAt-mono zero d s t x = x
-  trueAt-mono (suc zero) d s t x = let q = reaches-walk es f s t .0 x in reaches-walk es g s t .1 (q .0, walk-mono es {f = f} {g = g} h (q .1))
-  trueAt-mono (suc (suc zero)) d s t x = let q = within-walk es f s d t .0 x in within-walk es g s d t .1 (q .0, q .1, walk-mono es {f = f} {g = g} h (q .2))
-  trueAt-mono (suc (suc (suc k))) d s t x = x
-
 pub true-mono : (es : List Edge) (f g : Graph) (A : Atom) → ((e : Edge) → List·Memᴰ e es → T (f e) → T (g e)) → IsTrue es f A → IsTrue es g A
-true-mono es f g A h x = trueAt-mono es f g h (A .kind) (A .bound) (A .from) (A .to) x
+true-mono es f g A h x = let q = true-led es f A .0 x in true-led es g A .1 (q .0, walk-mono (costOf (A .kind)) es {f = f} {g = g} h (q .1), q .2)

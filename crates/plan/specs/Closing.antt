@@ -1,26 +1,35 @@
 -- Closing a set of literals. Document 01, "Meaning", the paragraph on the under and over graphs.
 -- Assumes nothing.
 use mathlib.Core.Logic.{_≢_}
+use mathlib.Core.Bool.{Bool, true, false}
 use mathlib.Core.List.{List, List·Memᴰ}
 use Prim.Native.Nat.{ℕ}
 use lib.IntN.{ℤ, negℤ}
 use lib.Dec.{T}
-use Rattle.plan.specs.Meaning.{Atom, PlanFile, IsTrue, on, off, Literals, _⊆_, under, over}
+use Rattle.plan.specs.Meaning.{Atom, PlanFile, IsTrue, on, off, literalOf, Literals, _⊆_, graphOf}
+use Rattle.plan.specs.declared.Kind.{Kind}
+use Rattle.plan.specs.declared.Side.{Side}
+use Rattle.plan.specs.declared.Side.the-variants.{Under, Over}
 use Rattle.plan.specs.declared.State.{State}
 use Rattle.plan.specs.declared.State.the-variants.{Holds, Fails, Open}
 
--- "an atom true in the under graph", "one false in the over graph": what a set of literals says of an atom.
-abbrev pub HoldsIn : PlanFile → Literals → Atom → Type 0
-HoldsIn φ S A = IsTrue (φ .edges) (under S) A
+-- Which graph settles that an atom holds (true), and which that it fails (false): the one in which the verdict stays when more literals are
+-- known. More edges keep an atom of kind 1 or 2 true, so it holds by the under graph, which only gains edges, and fails by the over graph,
+-- which only loses them.
+abbrev pub settling : Kind → Bool → Side
+settling kind true = Under
+settling kind false = Over
 
-abbrev pub FailsIn : PlanFile → Literals → Atom → Type 0
-FailsIn φ S A = IsTrue (φ .edges) (over S) A → ⊥
+-- What a set of literals settles of an atom. "'Holds' (true in the under graph), 'fails' (false in the over graph)".
+abbrev pub Settles : PlanFile → Literals → Atom → Bool → Type 0
+Settles φ S A true = IsTrue (φ .edges) (graphOf (settling (A .kind) true) S) A
+Settles φ S A false = IsTrue (φ .edges) (graphOf (settling (A .kind) false) S) A → ⊥
 
--- "'holds' (true in the under graph), 'fails' (false in the over graph) or 'open'": what each case of the code's answer says.
+-- "or 'open'": what each case of the code's answer says.
 abbrev pub Settled : PlanFile → Literals → Atom → State → Type 0
-Settled φ S A Holds = HoldsIn φ S A
-Settled φ S A Fails = FailsIn φ S A
-Settled φ S A Open = (HoldsIn φ S A → ⊥) × (FailsIn φ S A → ⊥)
+Settled φ S A Holds = Settles φ S A true
+Settled φ S A Fails = Settles φ S A false
+Settled φ S A Open = (b : Bool) → Settles φ S A b → ⊥
 
 -- The rules: what a set of literals gives.
 pub data Gives (φ : PlanFile) (S : Literals) : ℤ → Type 0 where
@@ -28,8 +37,7 @@ pub data Gives (φ : PlanFile) (S : Literals) : ℤ → Type 0 where
   unit : (C : List ℤ) → List·Memᴰ C (φ .clauses) → (l : ℤ) → List·Memᴰ l C
       → ((m : ℤ) → List·Memᴰ m C → m ≢ l → T (S (negℤ m))) → Gives φ S l
   -- "an atom true in the under graph gives its variable on, one false in the over graph gives it off"
-  holds : (A : Atom) → List·Memᴰ A (φ .atoms) → HoldsIn φ S A → Gives φ S (on (A .variable))
-  fails : (A : Atom) → List·Memᴰ A (φ .atoms) → FailsIn φ S A → Gives φ S (off (A .variable))
+  settled : (A : Atom) → List·Memᴰ A (φ .atoms) → (b : Bool) → Settles φ S A b → Gives φ S (literalOf b (A .variable))
 
 -- A set obeys if it has what it gives.
 abbrev pub Obeys : PlanFile → Literals → Type 0

@@ -2,12 +2,16 @@
 -- Assumes nothing.
 use mathlib.Core.Path.{_≡_}
 use mathlib.Core.Logic.{_↔_, _⊎_}
-use mathlib.Core.Bool.{Bool, true, false, not}
+use mathlib.Core.Bool.{Bool, true, false, not, cond}
 use mathlib.Core.List.{List, List·Memᴰ}
-use Prim.Native.Nat.{ℕ, zero, suc, _≤_, _<_}
+use Prim.Native.Nat.{ℕ, zero, suc, _+_, _≤_, _<_}
 use lib.ListN.{length, getD, set}
 use lib.IntN.{ℤ, pos, negsuc, negℤ}
-use lib.Dec.{T}
+use lib.Dec.{T, eqb}
+use Rattle.plan.specs.declared.Kind.{Kind}
+use Rattle.plan.specs.declared.Kind.the-variants.{Reaches, Within}
+use Rattle.plan.specs.declared.Side.{Side}
+use Rattle.plan.specs.declared.Side.the-variants.{Under, Over}
 
 -- "2 edge: from, to, variable"
 pub record Edge : Type 0 where
@@ -17,11 +21,19 @@ pub record Edge : Type 0 where
 
 -- "3 atom: kind, from, to, bound, variable"
 pub record Atom : Type 0 where
-  pub kind : ℕ
+  pub kind : Kind
   pub from : ℕ
   pub to : ℕ
   pub bound : ℕ
   pub variable : ℕ
+
+-- "Kind 1 is 'reaches' .. Kind 2 is 'within'": a kind's number, and the kind of a number, which is one of these in an accepted file.
+abbrev pub numberOfKind : Kind → ℕ
+numberOfKind Reaches = 1
+numberOfKind Within = 2
+
+abbrev pub kindOf : ℕ → Kind
+kindOf n = cond (eqb n 1) Reaches Within
 
 -- What a plan file says: the head's two numbers, and the edges, atoms and clauses in file order, each sort by itself.
 pub record PlanFile : Type 0 where
@@ -37,7 +49,7 @@ edge es k = getD es k (record { from = 0; to = 0; variable = 0 })
 
 -- The atom numbered k, counted from 0 here.
 abbrev pub atom : List Atom → ℕ → Atom
-atom As k = getD As k (record { kind = 0; from = 0; to = 0; bound = 0; variable = 0 })
+atom As k = getD As k (record { kind = Reaches; from = 0; to = 0; bound = 0; variable = 0 })
 
 -- A graph has some of the edges.
 abbrev pub Graph : Type 0
@@ -51,35 +63,39 @@ pub record Leads (es : List Edge) (g : Graph) (u w : ℕ) : Type 0 where
   pub starts : edge es number .from ≡ u
   pub ends : edge es number .to ≡ w
 
--- A walk from s over edges of the graph: where it ends, and how many edges it takes.
-pub data Walk (es : List Edge) (g : Graph) (s : ℕ) : ℕ → ℕ → Type 0 where
-  stay : Walk es g s s zero
-  hop : {u w k : ℕ} → Walk es g s u k → Leads es g u w → Walk es g s w (suc k)
+-- What an edge adds to a walk that takes it.
+abbrev pub Cost : Type 0
+Cost = Edge → ℕ
 
--- "Hops from s to t: the fewest on-edges that lead from s to t; 0 if s = t; none if there is no path." That they are k is a
--- statement, and where there is no path no k fits it.
-pub record Hops (es : List Edge) (g : Graph) (s t k : ℕ) : Type 0 where
-  pub walk : Walk es g s t k
-  pub fewest : (j : ℕ) → Walk es g s t j → k ≤ j
+-- A walk from s over edges of the graph: where it ends, and what its edges cost in all.
+pub data Walk (c : Cost) (es : List Edge) (g : Graph) (s : ℕ) : ℕ → ℕ → Type 0 where
+  stay : Walk c es g s s zero
+  hop : {u w j k : ℕ} → Walk c es g s u j → (d : Leads es g u w) → k ≡ j + c (edge es (d .number)) → Walk c es g s w k
 
--- "'Reaches' is true if there is a hop count,"
-abbrev pub Reaches : List Edge → Graph → ℕ → ℕ → Type 0
-Reaches es g s t = (k : ℕ) × Hops es g s t k
+-- The distance from s to t is what the cheapest walk costs. That it is k is a statement, and where there is no path no k fits it.
+pub record Distance (c : Cost) (es : List Edge) (g : Graph) (s t k : ℕ) : Type 0 where
+  pub walk : Walk c es g s t k
+  pub fewest : (j : ℕ) → Walk c es g s t j → k ≤ j
 
--- "'within d' if there is one and it is at most d."
-abbrev pub Within : List Edge → Graph → ℕ → ℕ → ℕ → Type 0
-Within es g d s t = (k : ℕ) × Hops es g s t k × (k ≤ d)
+-- "Hops from s to t: the fewest on-edges that lead from s to t; 0 if s = t; none if there is no path.": the distance where each edge costs 1.
+abbrev pub oneHop : Cost
+oneHop e = 1
 
--- "Kind 1 is 'reaches' .. Kind 2 is 'within'", and there is no other.
-abbrev pub IsTrueAt : ℕ → List Edge → Graph → ℕ → ℕ → ℕ → Type 0
-IsTrueAt zero es g d s t = ⊥
-IsTrueAt (suc zero) es g d s t = Reaches es g s t
-IsTrueAt (suc (suc zero)) es g d s t = Within es g d s t
-IsTrueAt (suc (suc (suc k))) es g d s t = ⊥
+abbrev pub Hops : List Edge → Graph → ℕ → ℕ → ℕ → Type 0
+Hops es g s t k = Distance oneHop es g s t k
 
--- The atom is true in the graph.
+-- What the kinds count: hops.
+abbrev pub costOf : Kind → Cost
+costOf kind = oneHop
+
+-- "'Reaches' is true if there is a hop count, 'within d' if there is one and it is at most d.": what is asked of the count k.
+abbrev pub Allows : Kind → ℕ → ℕ → Type 0
+Allows Reaches d k = T true
+Allows Within d k = k ≤ d
+
+-- The atom is true in the graph. "No path makes 'within d' false for every d."
 abbrev pub IsTrue : List Edge → Graph → Atom → Type 0
-IsTrue es g A = IsTrueAt (A .kind) es g (A .bound) (A .from) (A .to)
+IsTrue es g A = (k : ℕ) × Distance (costOf (A .kind)) es g (A .from) (A .to) k × Allows (A .kind) (A .bound) k
 
 -- "A literal is a variable's number, negative for off": the two literals of a variable. A literal's opposite is its negation.
 abbrev pub on : ℕ → ℤ
@@ -87,6 +103,10 @@ on v = pos v
 
 abbrev pub off : ℕ → ℤ
 off v = negℤ (pos v)
+
+abbrev pub literalOf : Bool → ℕ → ℤ
+literalOf true v = on v
+literalOf false v = off v
 
 -- "Assignments are lent as signed bytes, one for each variable: 1 on, -1 off, 0 open." A variable's value; its place is its number less 1.
 unfoldable pub value : List ℤ → ℕ → ℤ
@@ -129,6 +149,10 @@ under S e = S (on (e .variable))
 
 abbrev pub over : Literals → Graph
 over S e = not (S (off (e .variable)))
+
+abbrev pub graphOf : Side → Literals → Graph
+graphOf Under S = under S
+graphOf Over S = over S
 
 -- "an assignment of all variables": each is on or off.
 pub record Full (variables : ℕ) (a : List ℤ) : Type 0 where

@@ -1,12 +1,13 @@
 -- What holds of every plan file that is accepted. Document 01, "Plan file": "Ranges" and what follows it.
 -- Assumes nothing.
 use mathlib.Core.Path.{_≡_}
-use mathlib.Core.Logic.{_⊎_}
 use mathlib.Core.List.{List, [], _∷_, List·Memᴰ}
 use Prim.Native.Nat.{ℕ, _+_, _≤_, _<_}
 use lib.IntN.{ℤ, natAbs}
 use lib.ListN.{length}
 use Rattle.plan.specs.Meaning.{Edge, Atom, PlanFile}
+use Rattle.plan.specs.declared.Kind.{Kind}
+use Rattle.plan.specs.declared.Kind.the-variants.{Reaches, Within}
 
 -- The limits; in the code each is a constant of the thing it limits.
 abbrev pub maxBytes : ℕ
@@ -50,6 +51,11 @@ pub record LiteralFits (variables : ℕ) (l : ℤ) : Type 0 where
   pub low : 1 ≤ natAbs l
   pub high : natAbs l ≤ variables
 
+-- "Kind 1 is 'reaches', bound 0. Kind 2 is 'within', bound 0 to 255."
+abbrev pub BoundFits : Kind → ℕ → Type 0
+BoundFits Reaches d = d ≡ 0
+BoundFits Within d = d ≤ maxBound
+
 pub record Ranged (φ : PlanFile) : Type 0 where
   pub node : 1 ≤ φ .nodes
   pub nodes : φ .nodes ≤ maxNodes
@@ -61,8 +67,7 @@ pub record Ranged (φ : PlanFile) : Type 0 where
   pub literals : literals (φ .clauses) ≤ maxLiterals
   pub edge : (e : Edge) → List·Memᴰ e (φ .edges) → EndsFit (φ .nodes) (φ .variables) (e .from) (e .to) (e .variable)
   pub atom : (A : Atom) → List·Memᴰ A (φ .atoms) → EndsFit (φ .nodes) (φ .variables) (A .from) (A .to) (A .variable)
-  -- "Kind 1 is 'reaches', bound 0. Kind 2 is 'within', bound 0 to 255."
-  pub kind : (A : Atom) → List·Memᴰ A (φ .atoms) → ((A .kind ≡ 1) × (A .bound ≡ 0)) ⊎ ((A .kind ≡ 2) × (A .bound ≤ maxBound))
+  pub bound : (A : Atom) → List·Memᴰ A (φ .atoms) → BoundFits (A .kind) (A .bound)
   -- "An empty clause is malformed."
   pub clause : (C : List ℤ) → List·Memᴰ C (φ .clauses) → 1 ≤ length C
   pub literal : (C : List ℤ) → List·Memᴰ C (φ .clauses) → (l : ℤ) → List·Memᴰ l C → LiteralFits (φ .variables) l

@@ -3,12 +3,15 @@
 use mathlib.Core.Path.{_≡_}
 use mathlib.Core.Logic.{_↔_}
 use mathlib.Core.List.{List, [], _∷_, map, List·Memᴰ}
-use Prim.Native.Nat.{ℕ, zero, suc, _<_}
+use Prim.Native.Nat.{ℕ, zero, _+_, _<_}
 use lib.ListN.{length}
 use lib.IntN.{ℤ}
 use lib.Dec.{T}
-use Rattle.plan.specs.Meaning.{Edge, Atom, PlanFile, Graph, edge, Hops, Reaches, on, off, trueIn, under, over}
-use Rattle.plan.specs.Closing.{HoldsIn, FailsIn, Settled}
+use mathlib.Core.Bool.{true, false}
+use Rattle.plan.specs.Meaning.{Edge, Atom, PlanFile, Graph, edge, Cost, Distance, costOf, on, off, trueIn, graphOf}
+use Rattle.plan.specs.Closing.{settling, Settles, Settled}
+use Rattle.plan.specs.declared.Kind.{Kind}
+use Rattle.plan.specs.declared.Kind.the-variants.{Reaches, Within}
 use Rattle.plan.specs.declared.State.the-variants.{Open}
 
 -- The smallest number with the property P.
@@ -16,19 +19,21 @@ pub record Smallest (P : ℕ → Type 0) (k : ℕ) : Type 0 where
   pub is : P k
   pub least : (j : ℕ) → j < k → P j → ⊥
 
--- An edge of the graph leads to w from a node that is k hops from s.
-pub record Nearer (es : List Edge) (g : Graph) (s w k j : ℕ) : Type 0 where
+-- An edge of the graph leads to w, which is k from s, and a cheapest walk to w ends with it: what its start is from s and what it costs make k.
+pub record Nearer (c : Cost) (es : List Edge) (g : Graph) (s w k j : ℕ) : Type 0 where
   pub listed : j < length es
   pub present : T (g (edge es j))
   pub ends : edge es j .to ≡ w
-  pub near : Hops es g s (edge es j .from) k
+  pub before : ℕ
+  pub near : Distance c es g s (edge es j .from) before
+  pub sum : k ≡ before + c (edge es j)
 
 -- "one path, read back from the target one hop at a time. Each step takes the smallest-numbered on-edge that comes from a node one hop
--- nearer to the source." The edge variables of the path to w, which is so many hops from s, from the last edge to the first.
-pub data Back (es : List Edge) (g : Graph) (s : ℕ) : ℕ → ℕ → List ℕ → Type 0 where
-  source : Back es g s s zero []
-  step : {w k j : ℕ} {vs : List ℕ} → Smallest (Nearer es g s w k) j
-      → Back es g s (edge es j .from) k vs → Back es g s w (suc k) (edge es j .variable ∷ vs)
+-- nearer to the source." The edge variables of the path to w, which is so far from s, from the last edge to the first.
+pub data Back (c : Cost) (es : List Edge) (g : Graph) (s : ℕ) : ℕ → ℕ → List ℕ → Type 0 where
+  source : Back c es g s s zero []
+  step : {w k j : ℕ} {vs : List ℕ} → (f : Smallest (Nearer c es g s w k) j)
+      → Back c es g s (edge es j .from) (f .is .before) vs → Back c es g s w k (edge es j .variable ∷ vs)
 
 -- The numbers of a list rise, from above b.
 pub data Rising : ℕ → List ℕ → Type 0 where
@@ -41,12 +46,19 @@ pub record Listed (P : ℕ → Type 0) (vs : List ℕ) : Type 0 where
   pub exact : (v : ℕ) → List·Memᴰ v vs ↔ P v
 
 -- "Fails, kind 1: each off edge whose start is reached in the over graph and whose end is not. Fails, kind 2: each off edge (x, y) where
--- x has over-hops less than d and y has none, or more than x's plus 1." Here of an edge, by the kind, in the graph g.
-abbrev pub Across : ℕ → List Edge → Graph → ℕ → ℕ → Edge → Type 0
-Across zero es g d s e = ⊥
-Across (suc zero) es g d s e = Reaches es g s (e .from) × (Reaches es g s (e .to) → ⊥)
-Across (suc (suc zero)) es g d s e = (k : ℕ) × (k < d) × Hops es g s (e .from) k × ((j : ℕ) → Hops es g s (e .to) j → suc k < j)
-Across (suc (suc (suc k))) es g d s e = ⊥
+-- x has over-hops less than d and y has none, or more than x's plus 1." What is asked of x's count k, and, beside it, of each count j of y.
+abbrev pub LeavesAt : Kind → ℕ → ℕ → Type 0
+LeavesAt Reaches d k = T true
+LeavesAt Within d k = k < d
+
+abbrev pub EndsBeyond : Kind → ℕ → ℕ → Type 0
+EndsBeyond Reaches far j = ⊥
+EndsBeyond Within far j = far < j
+
+-- The edge leads across, in the graph g.
+abbrev pub Across : Kind → List Edge → Graph → ℕ → ℕ → Edge → Type 0
+Across kind es g d s e =
+    (k : ℕ) × Distance (costOf kind) es g s (e .from) k × LeavesAt kind d k × ((j : ℕ) → Distance (costOf kind) es g s (e .to) j → EndsBeyond kind (k + costOf kind e) j)
 
 pub data Reason : Type 0 where
   holds : List ℤ → Reason
@@ -54,27 +66,27 @@ pub data Reason : Type 0 where
   neither : Reason
 
 module _ (φ : PlanFile) (a : List ℤ) (A : Atom) where
-  -- The variable v is that of an off edge that leads across.
+  -- The variable v is that of an off edge that leads across in the graph by which the atom fails.
   pub record Cut (v : ℕ) : Type 0 where
     pub number : ℕ
     pub listed : number < length (φ .edges)
     pub its : edge (φ .edges) number .variable ≡ v
     pub isOff : T (trueIn a (off v))
-    pub across : Across (A .kind) (φ .edges) (over (trueIn a)) (A .bound) (A .from) (edge (φ .edges) number)
+    pub across : Across (A .kind) (φ .edges) (graphOf (settling (A .kind) false) (trueIn a)) (A .bound) (A .from) (edge (φ .edges) number)
 
   -- "the atom's literal first (on for 'holds', off for 'fails'), then the opposite of each premise, variables rising, each once"
   pub record HoldsBy (r : List ℤ) : Type 0 where
-    pub truth : HoldsIn φ (trueIn a) A
-    pub hops : ℕ
+    pub truth : Settles φ (trueIn a) A true
+    pub count : ℕ
     pub path : List ℕ
-    pub nearest : Hops (φ .edges) (under (trueIn a)) (A .from) (A .to) hops
-    pub read : Back (φ .edges) (under (trueIn a)) (A .from) (A .to) hops path
+    pub nearest : Distance (costOf (A .kind)) (φ .edges) (graphOf (settling (A .kind) true) (trueIn a)) (A .from) (A .to) count
+    pub read : Back (costOf (A .kind)) (φ .edges) (graphOf (settling (A .kind) true) (trueIn a)) (A .from) (A .to) count path
     pub premises : List ℕ
     pub listed : Listed (λ v. List·Memᴰ v path) premises
     pub clause : r ≡ on (A .variable) ∷ map off premises
 
   pub record FailsBy (r : List ℤ) : Type 0 where
-    pub falsity : FailsIn φ (trueIn a) A
+    pub falsity : Settles φ (trueIn a) A false
     pub premises : List ℕ
     pub listed : Listed Cut premises
     pub clause : r ≡ off (A .variable) ∷ map on premises

@@ -1,12 +1,11 @@
 -- The flat tables that the reader fills and the library lends on: docs/LAYOUT.md. A plan file as it stands in them.
 -- Assumes nothing.
 use mathlib.Core.Path.{_≡_}
-use mathlib.Core.Bool.{Bool, true, false}
 use mathlib.Core.List.{List, [], _∷_}
 use Prim.Native.Nat.{ℕ, zero, suc, _*_}
 use lib.IntN.{ℤ, pos, negsuc, negℤ}
 use lib.ListN.{length, getD}
-use Rattle.plan.specs.Meaning.{Edge, Atom, PlanFile, on, off}
+use Rattle.plan.specs.Meaning.{Edge, Atom, PlanFile, kindOf}
 use Rattle.plan.specs.Ranged.{Ranged, literals}
 use Rattle.plan.specs.Written.{flat}
 use Rattle.plan.specs.declared.Plan.{Plan}
@@ -20,14 +19,14 @@ edgesOf (f ∷ []) = []
 edgesOf (f ∷ t ∷ []) = []
 edgesOf (f ∷ t ∷ v ∷ r) = record { from = f; to = t; variable = v } ∷ edgesOf r
 
--- five numbers for an atom: kind, from, to, bound, variable
+-- five numbers for an atom: its kind's number, from, to, bound, variable
 unfoldable pub atomsOf : List ℕ → List Atom
 atomsOf [] = []
 atomsOf (k ∷ []) = []
 atomsOf (k ∷ f ∷ []) = []
 atomsOf (k ∷ f ∷ t ∷ []) = []
 atomsOf (k ∷ f ∷ t ∷ d ∷ []) = []
-atomsOf (k ∷ f ∷ t ∷ d ∷ v ∷ r) = record { kind = k; from = f; to = t; bound = d; variable = v } ∷ atomsOf r
+atomsOf (k ∷ f ∷ t ∷ d ∷ v ∷ r) = record { kind = kindOf k; from = f; to = t; bound = d; variable = v } ∷ atomsOf r
 
 -- a literal in front of the first clause; behind the last 0 there is no clause
 abbrev pub inFront : ℤ → List (List ℤ) → List (List ℤ)
@@ -47,11 +46,6 @@ edgeOf e = record { from = e .from; to = e .to; variable = e .variable }
 
 abbrev pub atomOf : struct-of-atom.Atom → Atom
 atomOf A = record { kind = A .kind; from = A .from; to = A .to; bound = A .bound; variable = A .variable }
-
--- A variable's literal: on or off.
-abbrev pub literalOf : Bool → ℕ → ℤ
-literalOf true v = on v
-literalOf false v = off v
 
 -- What a literal is in an assignment, as the code computes it: 1 true, -1 false, 0 open.
 unfoldable pub literalValue : List ℤ → ℤ → ℤ

@@ -7,6 +7,8 @@ use Prim.Native.Nat.{ℕ, zero, suc, _+_, _*_, _-_, min}
 use lib.ListN.{length}
 use lib.IntN.{ℤ, pos}
 use lib.Dec.{eqb}
+use Rattle.plan.specs.declared.Kind.{Kind}
+use Rattle.plan.specs.declared.Kind.the-variants.{Reaches, Within}
 use Rattle.plan.specs.Meaning.{Edge, Atom, PlanFile, edge, on, off, HasTrue, Full, IsPlan}
 
 -- f 0, then f 1, and so on to f (n - 1): "Nodes and edges go in rising number."
@@ -63,11 +65,9 @@ module _ (n : ℕ) (es : List Edge) (base : ℕ) where
   block L s t a = startClauses s ++ (each L levelClauses ++ endClauses L t a)
 
 -- "L = n - 1 for kind 1, the lesser of bound and n - 1 for kind 2"
-abbrev pub levelsOf : ℕ → ℕ → ℕ → ℕ
-levelsOf n zero bound = 0
-levelsOf n (suc zero) bound = n - 1
-levelsOf n (suc (suc zero)) bound = min bound (n - 1)
-levelsOf n (suc (suc (suc k))) bound = 0
+abbrev pub levelsOf : ℕ → Kind → ℕ → ℕ
+levelsOf n Reaches bound = n - 1
+levelsOf n Within bound = min bound (n - 1)
 
 unfoldable pub levels : ℕ → Atom → ℕ
 levels n A = levelsOf n (A .kind) (A .bound)

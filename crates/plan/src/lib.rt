@@ -2,11 +2,13 @@ ghost use mathlib.Core.Path.{_≡_};
 ghost use Prim.Native.Nat.{_+_, _*_, _<_, _≤_};
 ghost use lib.IntN.{pos, negsuc, negℤ, natAbs};
 ghost use lib.ListN.{length, replicate};
-ghost use Rattle.plan.specs.Meaning.{add, edge, atom};
+ghost use Rattle.plan.specs.Meaning.{add, edge, atom, kindOf, literalOf};
+ghost use Rattle.plan.specs.Closing.{settling};
 ghost use Rattle.plan.specs.Search.{Assigned};
 ghost use Rattle.plan.specs.Ranged.{LiteralFits};
+ghost use Rattle.plan.specs.declared.Kind.{Kind};
 ghost use Rattle.plan.specs.Refusals.{numberOf, valueOf};
-ghost use Rattle.plan.specs.Tables.{edgesOf, atomsOf, edgeOf, atomOf, literalOf, literalValue};
+ghost use Rattle.plan.specs.Tables.{edgesOf, atomsOf, edgeOf, atomOf, literalValue};
 
 // Why a call is refused, with the value that is returned beside the number.
 pub enum Refusal {
@@ -22,6 +24,18 @@ pub enum Refusal {
     BadValue(usize),
     NoSuchAtom(usize),
     NoRoom(usize),
+}
+
+// What an atom says of its two sites: that there is a path, or one of so many hops at the most.
+pub enum Kind {
+    Reaches,
+    Within,
+}
+
+// A graph of a partial assignment: the edges that are on, or those that are not off.
+pub enum Side {
+    Under,
+    Over,
 }
 
 // What a partial assignment says of an atom.
@@ -64,7 +78,7 @@ impl Edge {
 }
 
 pub struct Atom {
-    pub kind: u16,
+    pub kind: Kind,
     pub from: u16,
     pub to: u16,
     pub bound: u16,
@@ -201,6 +215,26 @@ pub fn edge_at(edges: &[u16], k: usize) -> Edge
     }
 }
 
+// The kind that a number stands for.
+pub fn kind_of(number: u16) -> Kind
+    ensures { λ r. ⌜ r ≡ kindOf number ⌝ }
+{
+    if number == 1 {
+        return Kind::Reaches;
+    }
+    Kind::Within
+}
+
+// The graph that settles that an atom holds, or that it fails: the same for every kind.
+pub fn settling_side(holds: bool) -> Side
+    ensures { λ r. ⌜ ((kind : Kind) → r ≡ settling kind holds) ⌝ }
+{
+    if holds {
+        return Side::Under;
+    }
+    Side::Over
+}
+
 // The atom numbered k, from 0, of an atom table.
 pub fn atom_at(atoms: &[u16], k: usize) -> Atom
     requires { ⌜ k * 5 + 4 < length (now atoms) ⌝ }
@@ -208,7 +242,7 @@ pub fn atom_at(atoms: &[u16], k: usize) -> Atom
 {
     let at = k * Atom::NUMBERS;
     Atom {
-        kind: atoms[at],
+        kind: kind_of(atoms[at]),
         from: atoms[at + 1],
         to: atoms[at + 2],
         bound: atoms[at + 3],

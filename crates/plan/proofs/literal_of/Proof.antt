@@ -1,6 +1,6 @@
 use mathlib.Core.Path.{sym, ap, _∙_}
 use borrow.Author.Needs.{needs}
-use Rattle.plan.specs.Tables.{literalOf}
+use Rattle.plan.specs.Meaning.{literalOf}
 use Rattle.plan.proofs.Literals.{on-is, off-fits, off-is}
 use Rattle.plan.proofs.literal_of.Statement.{statement}
 use Rattle.plan.proofs.literal_of.Tie as tie
