@@ -10,16 +10,15 @@ use native.Mathlib.Decide.{decLt}
 use native.Mathlib.Omega.{arith}
 use lib.Bits.{bitAnd, bitOr, or-lt, and-le-r}
 use lib.ListN.{length, getD, set, replicate}
+use lib.Seq.{getD-set-same, getD-set-other}
 use lib.Arith.{lt-one}
 use lib.Pow.{pow-lt}
 use lib.Dec.{T, T-not, not-T}
-use Rattle.plan.specs.Meaning.{Edge, Graph, Leads, Walk, stay, hop}
-use Rattle.plan.specs.Meaning as meaning
+use Rattle.plan.specs.Meaning.{Edge, Graph, Leads, Walk, stay, hop, Distance, oneHop}
 use Rattle.plan.proofs.Bools.{T?, or-cases, or-left, or-right, and-both, and-left, and-right}
 use Rattle.plan.proofs.Walks.{its-in}
-use Rattle.walk.specs.Hopping.{bit, Inside, Neighbours, HopTable}
+use Rattle.walk.specs.Hopping.{bit, Inside, Neighbours, DistanceTable}
 use Rattle.walk.specs.Front.{size, Visited}
-use Rattle.walk.specs.declared.Hops.{Hops}
 use Rattle.walk.proofs.Sets.{zeros, bit-inside, bit-one, bit-or, bit-and, bit-not, size-or, size-one, size-le}
 
 -- A walk from s over the sets of neighbours.
@@ -41,7 +40,7 @@ pub record Bfs (sets : List ℕ) (s reached : ℕ) (counts queue : List ℕ) (ta
       → T (bit w reached) × (getD counts w 0 ≤ suc (getD counts (getD queue i 0) 0))
   pub many : tail ≡ size reached
   pub fits : reached < 2 ^ 64
-  pub numbered : length counts ≡ 64
+  pub numbered : length counts ≡ 65
   pub places : length queue ≡ 64
 
 pub tail-le : {sets : List ℕ} {s reached : ℕ} {counts queue : List ℕ} {tail head : ℕ} → Bfs sets s reached counts queue tail head → tail ≤ 64
@@ -57,16 +56,16 @@ module _ {sets : List ℕ} {s reached : ℕ} {counts queue : List ℕ} {tail hea
 
 -- ---- where the walk begins
 
-pub begin : (sets : List ℕ) (s reached : ℕ) → s < 64 → reached ≡ 2 ^ s → Bfs sets s reached (replicate 64 0) (set (replicate 64 0) 0 s) 1 0
+pub begin : (sets : List ℕ) (s reached : ℕ) → s < 64 → reached ≡ 2 ^ s → Bfs sets s reached (replicate 65 0) (set (replicate 64 0) 0 s) 1 0
 begin sets s reached l e = record {
   source = there;
-  begins = zeros 64 s;
-  sound = λ w t. subst₂ (λ (x k : ℕ). Trail sets s x k) (sym (only w t)) (sym (zeros 64 w)) start;
+  begins = zeros 65 s;
+  sound = λ w t. subst₂ (λ (x k : ℕ). Trail sets s x k) (sym (only w t)) (sym (zeros 65 w)) start;
   queued = λ w t. (0, omega arith, sym (only w t));
   seen = λ i m. rw (lt-one m) there;
-  low = λ i m. omega (arith, zeros 64 (getD (set (replicate 64 0) 0 s) i 0));
-  rising = λ i k a b. omega (arith, zeros 64 (getD (set (replicate 64 0) 0 s) i 0));
-  near = λ _ w t. omega (arith, zeros 64 w);
+  low = λ i m. omega (arith, zeros 65 (getD (set (replicate 64 0) 0 s) i 0));
+  rising = λ i k a b. omega (arith, zeros 65 (getD (set (replicate 64 0) 0 s) i 0));
+  near = λ _ w t. omega (arith, zeros 65 w);
   closed = λ i w m l t. absurd (omega arith);
   many = omega (arith, ap size e, size-one 64 s l);
   fits = omega (arith, e, pow-lt l);
@@ -198,9 +197,9 @@ module _ (sets : List ℕ) (s : ℕ) (below : s < 64) (es : List Edge) (g : Grap
   node-lt start = below
   node-lt (onward t l m) = l
 
-  walked : {w k : ℕ} → Trail sets s w k → Walk es g s w k
+  walked : {w k : ℕ} → Trail sets s w k → Walk oneHop es g s w k
   walked start = stay
-  walked (onward {u = u} {w = w} t l m) = hop (walked t) (n .exact u w (node-lt t) l .0 m)
+  walked (onward {u = u} {w = w} {k = k} t l m) = hop {k = suc k} (walked t) (n .exact u w (node-lt t) l .0 m) (omega arith)
 
   ends-lt : {u w : ℕ} → Leads es g u w → (u < 64) × (w < 64)
   ends-lt d =
@@ -208,21 +207,30 @@ module _ (sets : List ℕ) (s : ℕ) (below : s < 64) (es : List Edge) (g : Grap
       (subst (λ (x : ℕ). x < 64) (d .starts) (f .0), subst (λ (x : ℕ). x < 64) (d .ends) (f .1))
 
   module _ (reached : ℕ) (counts queue : List ℕ) (tail : ℕ) (b : Bfs sets s reached counts queue tail tail) where
-    reach : {w k : ℕ} → Walk es g s w k → T (bit w reached) × (getD counts w 0 ≤ k)
+    reach : {w k : ℕ} → Walk oneHop es g s w k → T (bit w reached) × (getD counts w 0 ≤ k)
     reach stay = (b .source, omega (arith, b .begins))
-    reach (hop {u = u} {w = w} {k = k} r d) =
+    reach (hop {u = u} {w = w} {j = j} {k = k} r d e) =
         let o = reach r in
         let p = b .queued u (o .0) in
         let l = ends-lt d in
         let c = b .closed (p .0) w (p .1) (l .1) (subst (λ (x : ℕ). T (bit w (getD sets x 0))) (sym (p .2)) (n .exact u w (l .0) (l .1) .1 d)) in
-        (c .0, omega (arith, c .1, o .1, ap (λ (x : ℕ). getD counts x 0) (p .2)))
+        (c .0, omega (arith, e, c .1, o .1, ap (λ (x : ℕ). getD counts x 0) (p .2)))
 
-    pub table : (h : Hops) → h .reached ≡ reached → h .counts ≡ counts → HopTable es g s h
-    table h e f = record {
+    -- the set goes behind the counts
+    set-is : getD (set counts 64 reached) 64 0 ≡ reached
+    set-is = getD-set-same counts 64 reached 0 (omega (arith, b .numbered))
+
+    count-is : (w : ℕ) → T (bit w reached) → getD (set counts 64 reached) w 0 ≡ getD counts w 0
+    count-is w t = let l = bit-inside 64 w reached (b .fits) t in getD-set-other counts 64 w reached 0 (λ e. omega arith)
+
+    pub table : DistanceTable oneHop es g s (set counts 64 reached)
+    table = record {
       number = λ w k. (
-        (λ t. subst (λ (x : ℕ). meaning.Hops es g s w x) (ap (λ c. getD c w 0) (sym f) ∙ t .1) (record { walk = walked (b .sound w (subst (λ (x : ℕ). T (bit w x)) e (t .0))); fewest = λ j r. reach r .1 })),
+        (λ t.
+            let o = subst (λ (x : ℕ). T (bit w x)) set-is (t .0) in
+            subst (λ (x : ℕ). Distance oneHop es g s w x) (sym (count-is w o) ∙ t .1) (record { walk = walked (b .sound w o); fewest = λ j r. reach r .1 })),
         (λ d.
             let o = reach (d .walk) in
-            (subst (λ (x : ℕ). T (bit w x)) (sym e) (o .0), omega (arith, ap (λ c. getD c w 0) f, o .1, d .fewest (getD counts w 0) (walked (b .sound w (o .0)))))),
+            (subst (λ (x : ℕ). T (bit w x)) (sym set-is) (o .0), omega (arith, count-is w (o .0), o .1, d .fewest (getD counts w 0) (walked (b .sound w (o .0)))))),
       );
     }

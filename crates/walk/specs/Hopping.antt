@@ -8,21 +8,14 @@ use Prim.Native.Nat.{ℕ, zero, suc, _%_, _/_, _<_, _≤_}
 use lib.ListN.{getD}
 use lib.IntN.{ℤ}
 use lib.Dec.{T, eqb}
-use Rattle.plan.specs.Meaning.{Edge, Atom, PlanFile, Graph, Leads, IsTrue, trueIn, under, over}
-use Rattle.plan.specs.Meaning as meaning
-use Rattle.plan.specs.Closing.{Settled}
+use Rattle.plan.specs.Meaning.{Edge, Atom, PlanFile, Graph, Leads, Cost, Distance, oneHop, costOf, IsTrue, trueIn, graphOf}
+use Rattle.plan.specs.Closing.{settling, Settled}
 use Rattle.plan.specs.declared.State.{State}
-use Rattle.walk.specs.declared.Hops.{Hops}
 
 -- A set of nodes as the binary digits of one number: whether i is in the set x.
 unfoldable pub bit : ℕ → ℕ → Bool
 bit zero x = eqb (x % 2) 1
 bit (suc i) x = bit i (x / 2)
-
--- The under graph of an assignment at false, its over graph at true.
-abbrev pub graphOf : Bool → List ℤ → Graph
-graphOf false a = under (trueIn a)
-graphOf true a = over (trueIn a)
 
 -- Every edge runs between nodes below 64.
 abbrev pub Inside : List Edge → Type 0
@@ -36,21 +29,27 @@ Placed es variables = (e : Edge) → List·Memᴰ e es → (1 ≤ e .variable) �
 pub record Neighbours (es : List Edge) (g : Graph) (sets : List ℕ) : Type 0 where
   pub exact : (u w : ℕ) → u < 64 → w < 64 → T (bit w (getD sets u 0)) ↔ Leads es g u w
 
--- A node is reached, with the count k, exactly if it is k hops from s. The count of a node that is not reached says nothing.
-pub record HopTable (es : List Edge) (g : Graph) (s : ℕ) (h : Hops) : Type 0 where
-  pub number : (w k : ℕ) → (T (bit w (h .reached)) × (getD (h .counts) w 0 ≡ k)) ↔ meaning.Hops es g s w k
+-- The distances from one node as they stand in a table: that of node w at place w, and at place 64 the set of the nodes that are reached.
+abbrev pub reachedIn : List ℕ → ℕ → Bool
+reachedIn d w = bit w (getD d 64 0)
 
--- The hops as they are lent on: the set and the counts.
-abbrev pub hopsOf : ℕ → List ℕ → Hops
-hopsOf reached counts = record { reached = reached; counts = counts }
+abbrev pub distanceIn : List ℕ → ℕ → ℕ
+distanceIn d w = getD d w 0
+
+-- A node is reached, with the distance k, exactly if it is k from s. What stands at a node that is not reached says nothing.
+pub record DistanceTable (c : Cost) (es : List Edge) (g : Graph) (s : ℕ) (d : List ℕ) : Type 0 where
+  pub number : (w k : ℕ) → (T (reachedIn d w) × (distanceIn d w ≡ k)) ↔ Distance c es g s w k
 
 -- What the functions promise, of whatever graph the sets and tables are.
-abbrev pub Walked : List ℕ → ℕ → Hops → Type 0
-Walked sets s r = (es : List Edge) (g : Graph) → Inside es → Neighbours es g sets → HopTable es g s r
+abbrev pub Walked : List ℕ → ℕ → List ℕ → Type 0
+Walked sets s r = (es : List Edge) (g : Graph) → Inside es → Neighbours es g sets → DistanceTable oneHop es g s r
 
-abbrev pub Truth : Atom → Hops → Bool → Type 0
-Truth A h r = (es : List Edge) (g : Graph) → HopTable es g (A .from) h → T r ↔ IsTrue es g A
+abbrev pub Truth : Atom → List ℕ → Bool → Type 0
+Truth A d r = (es : List Edge) (g : Graph) → DistanceTable (costOf (A .kind)) es g (A .from) d → T r ↔ IsTrue es g A
 
-abbrev pub SettledBy : Atom → Hops → Hops → State → Type 0
-SettledBy A u o r = (φ : PlanFile) (a : List ℤ) → HopTable (φ .edges) (under (trueIn a)) (A .from) u → HopTable (φ .edges) (over (trueIn a)) (A .from) o
-    → Settled φ (trueIn a) A r
+-- The table is of the graph that settles whether the atom holds (true) or fails (false).
+abbrev pub Settling : List Edge → List ℤ → Atom → Bool → List ℕ → Type 0
+Settling es a A b d = DistanceTable (costOf (A .kind)) es (graphOf (settling (A .kind) b) (trueIn a)) (A .from) d
+
+abbrev pub SettledBy : Atom → List ℕ → List ℕ → State → Type 0
+SettledBy A u o r = (φ : PlanFile) (a : List ℤ) → Settling (φ .edges) a A true u → Settling (φ .edges) a A false o → Settled φ (trueIn a) A r

@@ -1,18 +1,24 @@
+// The hop walk: neighbour sets of a graph, distances from one node, and what they say of an atom. How the distances are laid out stays in here.
 use plan::Atom;
 use plan::Edge;
+use plan::Kind;
+use plan::Side;
 use plan::State;
 ghost use mathlib.Core.Path.{_≡_};
 ghost use Prim.Native.Nat.{suc, _+_, _*_, _<_, _≤_};
 ghost use lib.ListN.{length};
+ghost use mathlib.Core.Logic.{_↔_};
+ghost use lib.Dec.{T};
+ghost use Rattle.plan.specs.Meaning.{graphOf, trueIn, Allows};
 ghost use Rattle.plan.specs.Tables.{edgesOf, edgeOf, atomOf};
-ghost use Rattle.walk.specs.Hopping.{bit, graphOf, Inside, Placed, Neighbours, Walked, hopsOf, Truth, SettledBy};
+ghost use Rattle.walk.specs.Hopping.{bit, Inside, Placed, Neighbours, reachedIn, Walked, Truth, SettledBy};
 ghost use Rattle.walk.specs.Front.{UpTo, size, Visited};
 
-// The nodes that are reached, one bit for each, and in how many hops.
-pub struct Hops {
-    pub reached: u64,
-    pub counts: [u8; 64],
-}
+// The distances from one node: that of node w at place w, and at place 64 the set of the nodes that are reached, one bit for each.
+// What stands at a node that is not reached says nothing.
+pub type Distances = [u64; 65];
+
+const REACHED: usize = 64;
 
 // Whether a node is in a set.
 pub fn has(set: u64, node: usize) -> bool
@@ -23,29 +29,29 @@ pub fn has(set: u64, node: usize) -> bool
 }
 
 // Whether an edge is in the graph: on in the under graph, not off in the over graph.
-pub fn is_present(values: &[i8], edge: Edge, over: bool) -> bool
+pub fn is_present(values: &[i8], edge: Edge, side: Side) -> bool
     requires { ⌜ 1 ≤ edge .variable ⌝ }
     requires { ⌜ edge .variable ≤ length (now values) ⌝ }
-    ensures { λ r. ⌜ r ≡ graphOf over (now (values .entry)) (edgeOf edge) ⌝ }
+    ensures { λ r. ⌜ r ≡ graphOf side (trueIn (now (values .entry))) (edgeOf edge) ⌝ }
 {
     let at = plan::wide(edge.variable) - 1;
     let value = values[at];
-    if over {
-        return value != -1;
+    match side {
+        Side::Under => value == 1,
+        Side::Over => value != -1,
     }
-    value == 1
 }
 
 // Adds the edge numbered `k`, from 0, to the sets where it is in the graph.
-fn add_edge(edges: &[u16], values: &[i8], over: bool, k: usize, sets: &mut [u64; 64])
+fn add_edge(edges: &[u16], values: &[i8], side: Side, k: usize, sets: &mut [u64; 64])
     requires { ⌜ Inside (edgesOf (now edges)) ⌝ }
     requires { ⌜ Placed (edgesOf (now edges)) (length (now values)) ⌝ }
     requires { ⌜ k * 3 + 2 < length (now edges) ⌝ }
-    requires { ⌜ UpTo (edgesOf (now edges)) (graphOf over (now values)) k (now sets) ⌝ }
-    ensures { λ _. ⌜ UpTo (edgesOf (now (edges .entry))) (graphOf over (now (values .entry))) (suc k) (now (sets .exit)) ⌝ }
+    requires { ⌜ UpTo (edgesOf (now edges)) (graphOf side (trueIn (now values))) k (now sets) ⌝ }
+    ensures { λ _. ⌜ UpTo (edgesOf (now (edges .entry))) (graphOf side (trueIn (now (values .entry)))) (suc k) (now (sets .exit)) ⌝ }
 {
     let edge = plan::edge_at(edges, k);
-    if !is_present(values, edge, over) {
+    if !is_present(values, edge, side) {
         return;
     }
     let from = plan::wide(edge.from);
@@ -54,24 +60,24 @@ fn add_edge(edges: &[u16], values: &[i8], over: bool, k: usize, sets: &mut [u64;
 }
 
 // The set of nodes that each node leads to in one hop, in the under graph or in the over graph.
-pub fn neighbours(edges: &[u16], values: &[i8], over: bool) -> [u64; 64]
+pub fn neighbours(edges: &[u16], values: &[i8], side: Side) -> [u64; 64]
     requires { ⌜ Inside (edgesOf (now edges)) ⌝ }
     requires { ⌜ Placed (edgesOf (now edges)) (length (now values)) ⌝ }
-    ensures { λ r. ⌜ Neighbours (edgesOf (now (edges .entry))) (graphOf over (now (values .entry))) r ⌝ }
+    ensures { λ r. ⌜ Neighbours (edgesOf (now (edges .entry))) (graphOf side (trueIn (now (values .entry)))) r ⌝ }
 {
     let mut sets: [u64; 64] = [0; 64];
     let count = edges.len() / Edge::NUMBERS;
     let mut k = 0;
     while k < count {
-        add_edge(edges, values, over, k, &mut sets);
+        add_edge(edges, values, side, k, &mut sets);
         k += 1;
     }
     sets
 }
 
 // Gives each node of the set `new` its count and a place in the queue, whose first `tail` places are used. Returns the queue's new end.
-fn visit(new: u64, count: u8, tail: usize, counts: &mut [u8; 64], queue: &mut [u8; 64]) -> usize
-    requires { ⌜ length (now counts) ≡ 64 ⌝ }
+fn visit(new: u64, count: u64, tail: usize, counts: &mut Distances, queue: &mut [u8; 64]) -> usize
+    requires { ⌜ length (now counts) ≡ 65 ⌝ }
     requires { ⌜ length (now queue) ≡ 64 ⌝ }
     requires { ⌜ tail + size new ≤ 64 ⌝ }
     ensures { λ r. ⌜ Visited new count tail (now (counts .entry)) (now (queue .entry)) r (now (counts .exit)) (now (queue .exit)) ⌝ }
@@ -89,12 +95,12 @@ fn visit(new: u64, count: u8, tail: usize, counts: &mut [u8; 64], queue: &mut [u
 }
 
 // The hops from `source` to every node, breadth first.
-pub fn walk(neighbours: &[u64; 64], source: usize) -> Hops
+pub fn walk(neighbours: &[u64; 64], source: usize) -> Distances
     requires { ⌜ source < 64 ⌝ }
     ensures { λ r. ⌜ Walked (now (neighbours .entry)) source r ⌝ }
 {
     let mut reached = 1u64 << source;
-    let mut counts: [u8; 64] = [0; 64];
+    let mut counts: Distances = [0; 65];
     let mut queue: [u8; 64] = [0; 64];
     queue[0] = source as u8;
     let mut tail = 1;
@@ -107,48 +113,56 @@ pub fn walk(neighbours: &[u64; 64], source: usize) -> Hops
         reached = reached | new;
         head += 1;
     }
-    Hops {
-        reached: reached,
-        counts: counts,
+    counts[REACHED] = reached;
+    counts
+}
+
+fn widened(bound: u16) -> u64
+    ensures { λ r. ⌜ r ≡ bound ⌝ }
+{
+    bound as u64
+}
+
+// Whether a node is reached.
+pub fn is_reached(distances: &Distances, node: usize) -> bool
+    requires { ⌜ node < 64 ⌝ }
+    ensures { λ r. ⌜ r ≡ reachedIn (now (distances .entry)) node ⌝ }
+{
+    has(distances[REACHED], node)
+}
+
+// Whether a kind allows a distance, with this bound.
+fn allows(kind: Kind, bound: u16, distance: u64) -> bool
+    ensures { λ r. ⌜ (T r ↔ Allows kind bound distance) ⌝ }
+{
+    match kind {
+        Kind::Reaches => true,
+        Kind::Within => distance <= widened(bound),
     }
 }
 
-// A count as wide as an atom's bound.
-pub fn widened(count: u8) -> u16
-    ensures { λ r. ⌜ (r ≡ count) × (r < 256) ⌝ }
-{
-    count as u16
-}
-
-// Whether an atom is true in the graph of which these are the hops from its source.
-pub fn is_true(atom: Atom, reached: u64, counts: &[u8; 64]) -> bool
+// Whether an atom is true in the graph of which these are the distances from its source.
+pub fn is_true(atom: Atom, distances: &Distances) -> bool
     requires { ⌜ atom .to < 64 ⌝ }
-    ensures { λ r. ⌜ Truth (atomOf atom) (hopsOf reached (now (counts .entry))) r ⌝ }
+    ensures { λ r. ⌜ Truth (atomOf atom) (now (distances .entry)) r ⌝ }
 {
     let to = plan::wide(atom.to);
-    if !has(reached, to) {
+    if !is_reached(distances, to) {
         return false;
     }
     let kind = atom.kind;
-    let count = counts[to];
-    match kind {
-        1 => true,
-        2 => widened(count) <= atom.bound,
-        _ => false,
-    }
+    allows(kind, atom.bound, distances[to])
 }
 
-// What an assignment says of an atom, by the hops from its source in the under graph and in the over graph.
-pub fn settled(atom: Atom, under: Hops, over: Hops) -> State
+// What an assignment says of an atom, by the distances from its source in the graph by which it would hold and in that by which it would fail.
+pub fn settled(atom: Atom, holding: &Distances, failing: &Distances) -> State
     requires { ⌜ atom .to < 64 ⌝ }
-    ensures { λ r. ⌜ SettledBy (atomOf atom) under over r ⌝ }
+    ensures { λ r. ⌜ SettledBy (atomOf atom) (now (holding .entry)) (now (failing .entry)) r ⌝ }
 {
-    let under_counts = under.counts;
-    if is_true(atom, under.reached, &under_counts) {
+    if is_true(atom, holding) {
         return State::Holds;
     }
-    let over_counts = over.counts;
-    if is_true(atom, over.reached, &over_counts) {
+    if is_true(atom, failing) {
         return State::Open;
     }
     State::Fails

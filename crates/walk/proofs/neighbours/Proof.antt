@@ -2,7 +2,7 @@ use Prim.Native.Nat.{_-_, _≤_}
 use native.Mathlib.Numerals.{add-one}
 use native.Mathlib.Omega.{arith}
 use Rattle.plan.specs.Tables.{edgesOf}
-use Rattle.walk.specs.Hopping.{graphOf}
+use Rattle.plan.specs.Meaning.{graphOf, trueIn}
 use Rattle.walk.specs.Front.{UpTo}
 use Rattle.plan.proofs.Tables.{edges-most}
 use Rattle.walk.proofs.Filling.{filled-none, filled-all}
@@ -10,10 +10,10 @@ use Rattle.walk.proofs.neighbours.Statement.{statement}
 use Rattle.walk.proofs.neighbours.Tie as tie
 
 abbrev Inv-loop : tie.InvT-loop
-Inv-loop edges values over sets₀ count k₀ sets k = (k ≤ count) × UpTo (edgesOf edges) (graphOf over values) k sets
+Inv-loop edges values side sets₀ count k₀ sets k = (k ≤ count) × UpTo (edgesOf edges) (graphOf side (trueIn values)) k sets
 
 abbrev μ-loop : tie.MeasureT-loop
-μ-loop edges values over sets₀ count k₀ sets k = count - k
+μ-loop edges values side sets₀ count k₀ sets k = count - k
 
 loop-holds : tie.Need-loop-holds Inv-loop μ-loop
 loop-holds c = (omega arith, filled-none _ _)

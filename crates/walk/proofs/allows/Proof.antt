@@ -1,0 +1,14 @@
+-- `walk::allows`: each kind's test is what the definition asks of the distance.
+use lib.Dec.{leb→le, le→leb}
+use borrow.Author.Needs.{needs}
+use Rattle.walk.proofs.allows.Statement.{statement}
+use Rattle.walk.proofs.allows.Tie as tie
+
+returns : tie.Need-returns
+returns c = rw (c .enum-told .given .1) ((λ t. tt), (λ t. tt))
+
+returns-2 : tie.Need-returns-2
+returns-2 c = rw (c .before .enum-told2 .given .1, c .widened .ensures) (leb→le _ _, le→leb _ _)
+
+pub allows-spec : {M : Type 1} → statement M
+allows-spec = tie.close (tie.spec (λ c. search needs) (λ c. search needs) (λ c κs. search needs) returns returns-2)
