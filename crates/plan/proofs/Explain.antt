@@ -276,7 +276,7 @@ module _ (φ : PlanFile) (a : List ℤ) (A : Atom) where
     holds-by h =
         let k = hopsTo (φ .nodes) (φ .edges) (under (trueIn a)) (A .from) (A .to) in
         let near = hopsTo-is (φ .nodes) (φ .edges) (under (trueIn a)) (A .from) inside start (A .to)
-            (enough (φ .nodes) (φ .edges) (under (trueIn a)) (A .from) inside start (A .to) (h .0) (h .1 .walk)) in
+        (enough (φ .nodes) (φ .edges) (under (trueIn a)) (A .from) inside start (A .to) (h .0) (h .1 .walk)) in
         let path = back-is (φ .nodes) (φ .edges) (under (trueIn a)) (A .from) inside start k (A .to) near in
         record {
           truth = h;

@@ -11,7 +11,7 @@ ghost use mathlib.Core.Logic.{_↔_};
 ghost use lib.Dec.{T};
 ghost use Rattle.plan.specs.Meaning.{graphOf, trueIn, Allows};
 ghost use Rattle.plan.specs.Tables.{edgesOf, edgeOf, atomOf};
-ghost use Rattle.walk.specs.Hopping.{bit, Inside, Placed, Neighbours, reachedIn, Walked, Truth, SettledBy};
+ghost use Rattle.walk.specs.Hopping.{bit, Inside, Placed, Neighbours, reachedIn, distanceIn, Walked, Truth, SettledBy};
 ghost use Rattle.walk.specs.Front.{UpTo, size, Visited};
 
 // The distances from one node: that of node w at place w, and at place 64 the set of the nodes that are reached, one bit for each.
@@ -131,6 +131,14 @@ pub fn is_reached(distances: &Distances, node: usize) -> bool
     has(distances[REACHED], node)
 }
 
+// The distance of a node that is reached.
+pub fn distance(distances: &Distances, node: usize) -> u64
+    requires { ⌜ node < 64 ⌝ }
+    ensures { λ r. ⌜ r ≡ distanceIn (now (distances .entry)) node ⌝ }
+{
+    distances[node]
+}
+
 // Whether a kind allows a distance, with this bound.
 fn allows(kind: Kind, bound: u16, distance: u64) -> bool
     ensures { λ r. ⌜ (T r ↔ Allows kind bound distance) ⌝ }
@@ -151,7 +159,7 @@ pub fn is_true(atom: Atom, distances: &Distances) -> bool
         return false;
     }
     let kind = atom.kind;
-    allows(kind, atom.bound, distances[to])
+    allows(kind, atom.bound, distance(distances, to))
 }
 
 // What an assignment says of an atom, by the distances from its source in the graph by which it would hold and in that by which it would fail.

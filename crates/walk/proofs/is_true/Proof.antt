@@ -20,9 +20,9 @@ returns-2 c =
     let A = atomOf (w .before .args .atom) in
     λ es g x.
     let t = true-allowed A x (rw (w .wide .ensures) at (so (c .before .before .before .is-reached .ensures) (not-false _ (c .before .before .if1 .left)))) in
-    let r = rw (w .wide .ensures) at (c .allows .ensures) in
+    let r = rw (c .before .distance .ensures, w .wide .ensures) at (c .allows .ensures) in
     ((λ y. t .0 (r .0 y)), (λ y. r .1 (t .1 y)))
 
 pub is-true-spec : {M : Type 1} → statement M
 is-true-spec =
-    tie.close (tie.spec (λ c κs. search needs) (λ c κs. search needs) returns (λ c. search needs) (λ c. search needs) (λ c κs. search needs) returns-2)
+    tie.close (tie.spec (λ c κs. search needs) (λ c κs. search needs) returns (λ c κs. search needs) (λ c κs. search needs) returns-2)
