@@ -15,7 +15,7 @@ use Rattle.plan.specs.Ranged.{LiteralFits, Ranged, maxBound}
 use Rattle.plan.specs.Written.{levels, blocks, written, lastVariable, Satisfies, ExactlyOne}
 use Rattle.plan.proofs.Bools.{tab, anyOf, allOf, any-some, some-any, all-each, each-all, T-same, tab-length, tab-at}
 use Rattle.plan.proofs.Walks.{le-or-lt}
-use Rattle.plan.proofs.Levels.{isTrueAt?, isTrue?, true-iff}
+use Rattle.plan.proofs.Levels.{isTrue?, true-iff}
 use Rattle.encoding.proofs.Block.{Values, signed, satisfied, split}
 use Rattle.encoding.proofs.Forced.{at}
 use Rattle.encoding.proofs.Blocks.{valueOf, Fixed, RightAt, blocks-iff}
@@ -92,13 +92,6 @@ module _ (variables : ℕ) (a b : List ℤ) (long : length a ≡ variables) wher
           subst (λ x. (x ≡ pos 1) ⊎ (x ≡ negsuc 0)) (sym (back-at (i - variables)) ∙ ap (λ j. getD (a ++ b) j (pos 0)) e) (fb .each (i - variables) (omega arith))
       place i l (inr k) = subst (λ x. (x ≡ pos 1) ⊎ (x ≡ negsuc 0)) (sym (List·getD-append a b (pos 0) i (omega arith))) (fa .each i k)
 
--- the last level of an atom's block is the atom's test
-level-is : (n : ℕ) (es : List Edge) (f : Graph) (A : Atom) → ((A .kind ≡ 1) × (A .bound ≡ 0)) ⊎ ((A .kind ≡ 2) × (A .bound ≤ maxBound))
-    → at n es f (A .from) (levels n A) (A .to) ≡ isTrue? n es f A
-unfolding levels isTrueAt?
-level-is n es f A (inl k) = rw (k .0)
-level-is n es f A (inr k) = rw (k .0)
-
 module _ (φ : PlanFile) (r : Ranged φ) where
   abbrev n : ℕ
   n = φ .nodes
@@ -120,12 +113,13 @@ module _ (φ : PlanFile) (r : Ranged φ) where
     )
 
     right-iff : (A : Atom) → List·Memᴰ A (φ .atoms) → RightAt n (φ .edges) f (values (a ++ b)) A ↔ IsRight φ a A
+    unfolding isTrue?
     right-iff A m =
         let t = true-iff n (φ .edges) f A (λ e k. r .edge e k .to-in) (r .atom A m .from-in) in
         let x = front (φ .variables) a b (fa .long) (on (A .variable)) (literal A m) in
-        let y = level-is n (φ .edges) f A (r .kind A m) in (
-          λ e. let z = sym x ∙ e ∙ y in (λ h. t .0 (subst T z h), λ h. subst T (sym z) (t .1 h)),
-          λ i. x ∙ T-same (trueIn a (on (A .variable))) (isTrue? n (φ .edges) f A) (λ h. t .1 (i .0 h)) (λ h. i .1 (t .0 h)) ∙ sym y,
+        (
+          λ e. let z = sym x ∙ e in (λ h. t .0 (subst T z h), λ h. subst T (sym z) (t .1 h)),
+          λ i. x ∙ T-same (trueIn a (on (A .variable))) (isTrue? n (φ .edges) f A) (λ h. t .1 (i .0 h)) (λ h. i .1 (t .0 h)),
         )
 
     -- a plan, with the one value for each new variable

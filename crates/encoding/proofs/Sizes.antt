@@ -10,6 +10,8 @@ use native.Mathlib.Nat.{mul-le-mul-left, mul-le-mul-right, le-trans}
 use lib.IntN.{ℤ, pos}
 use lib.Dec.{T, eqb, eqb→eq, eqb-refl}
 use lib.ListN.{length, length-append}
+use Rattle.plan.specs.declared.Kind.{Kind}
+use Rattle.plan.specs.declared.Kind.the-variants.{Reaches, Within}
 use Rattle.plan.specs.Meaning.{Edge, Atom, PlanFile, edge, on, off}
 use Rattle.plan.specs.Ranged.{literals, Ranged}
 use Rattle.plan.specs.Written.{each, flat, R, U, into, startClauses, edgeClauses, nodeClauses, levelClauses, endClauses, block, levelsOf, levels, blockVariables, blockClauses, blockNumbers, atomBlock, after, blocks, last, written, lastVariable}
@@ -188,11 +190,9 @@ pub levels-le : (n : ℕ) (A : Atom) → levels n A ≤ n - 1
 unfolding levels
 levels-le n A = go (A .kind)
   where
-    go : (k : ℕ) → levelsOf n k (A .bound) ≤ n - 1
-    go zero = omega arith
-    go (suc zero) = omega arith
-    go (suc (suc zero)) = omega arith
-    go (suc (suc (suc k))) = omega arith
+    go : (kind : Kind) → levelsOf n kind (A .bound) ≤ n - 1
+    go Reaches = omega arith
+    go Within = omega arith
 
 pub total-le : (size : ℕ → ℕ) (n most : ℕ) → ((L : ℕ) → L ≤ n - 1 → size L ≤ most) → (As : List Atom) → total size n As ≤ length As * most
 unfolding total

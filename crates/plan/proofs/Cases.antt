@@ -265,13 +265,13 @@ passed (finds φ a o b) t =
     (searching-is φ (ranged φ (and-left (ranged? φ) _ t)) a (assigned-is (φ .variables) a (and-left (assigned? (φ .variables) a) _ u))))
 
 -- the files
-link : ℕ → ℕ → ℕ → Edge
+abbrev pub link : ℕ → ℕ → ℕ → Edge
 link f t v = record { from = f; to = t; variable = v }
 
-reaches : ℕ → ℕ → ℕ → Atom
+abbrev pub reaches : ℕ → ℕ → ℕ → Atom
 reaches f t v = record { kind = Reaches; from = f; to = t; bound = 0; variable = v }
 
-within : ℕ → ℕ → ℕ → ℕ → Atom
+abbrev pub within : ℕ → ℕ → ℕ → ℕ → Atom
 within d f t v = record { kind = Within; from = f; to = t; bound = d; variable = v }
 
 lone : PlanFile
@@ -280,7 +280,7 @@ lone = record { nodes = 1; variables = 1; edges = []; atoms = reaches 0 0 1 ∷ 
 row : PlanFile
 row = record { nodes = 5; variables = 4; edges = link 0 1 1 ∷ link 1 2 2 ∷ link 2 3 3 ∷ []; atoms = within 3 0 3 4 ∷ []; clauses = [] }
 
-sample : PlanFile
+abbrev pub sample : PlanFile
 sample = record {
   nodes = 3;
   variables = 5;
@@ -288,6 +288,10 @@ sample = record {
   atoms = within 1 0 2 4 ∷ reaches 0 2 5 ∷ [];
   clauses = (pos 5 ∷ []) ∷ (negsuc 3 ∷ []) ∷ [];
 }
+
+pub sample-ranged : Ranged sample
+unfolding literals
+sample-ranged = ranged sample tt
 
 y : ℤ
 y = pos 1
@@ -316,5 +320,5 @@ table =
     ∷ []
 
 pub shown : (c : Case) → List·Memᴰ c table → Says c
-unfolding table lone row sample link reaches within y n o literals next reached isTrue? levels judge close search reason trueIn value add
+unfolding table lone row y n o literals next reached isTrue? levels judge close search reason trueIn value add
 shown c m = passed c (all-each passes table tt c m)
