@@ -1,3 +1,5 @@
+pub mod clauses;
+
 ghost use mathlib.Core.Path.{_≡_};
 ghost use Prim.Native.Nat.{_+_, _*_, _<_, _≤_};
 ghost use lib.IntN.{pos, negsuc, negℤ, natAbs};
