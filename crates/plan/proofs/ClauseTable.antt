@@ -153,6 +153,10 @@ module _ {cs C : List ℤ} {start stop : ℕ} (t : Stands cs C start stop) where
   pub stands-in : List·Memᴰ C (clausesOf cs)
   stands-in = met start 0 (omega arith) (omega arith)
 
+-- behind a clause's 0 the next one begins
+pub begins-behind : (cs : List ℤ) (at e : ℕ) → End cs at e → BeginsAt cs (e + 1)
+begins-behind cs at e n h = let y : e + 1 - 1 ≡ e = omega arith in ap (λ k. getD cs k (pos 0)) y ∙ n .here
+
 -- and each clause stands somewhere
 module _ (cs : List ℤ) (z : Ended cs) (C : List ℤ) where
   abbrev Standing : Type 0
@@ -168,20 +172,14 @@ module _ (cs : List ℤ) (z : Ended cs) (C : List ℤ) where
         where
           pick : (e : ℕ) → End cs at e → (C ≡ part cs at e) ⊎ List·Memᴰ C (clausesOf (drop (e + 1) cs)) → Standing
           pick e t (inl y) = (at, e, record { begins = b; ends = t; is = y })
-          pick e t (inr o) = r (e + 1) (omega (arith, t .after)) (λ x. let y : e + 1 - 1 ≡ e = omega arith in ap (λ k. getD cs k (pos 0)) y ∙ t .here) o
+          pick e t (inr o) = r (e + 1) (omega (arith, t .after)) (begins-behind cs at e t) o
 
   pub in-stands : List·Memᴰ C (clausesOf cs) → Standing
   in-stands i = standing (length cs) 0 (omega arith) (λ h. absurd (omega arith)) i
 
 -- the clause around a place, from its beginning and its 0
-pub around-from : {cs : List ℤ} {k start stop : ℕ} → Begin cs k start → End cs k stop → Around cs k (part cs start stop)
-around-from {cs} b n = record {
-  start = _;
-  stop = _;
-  stands = record { begins = b .behind; ends = found-back (EndsAt cs) (b .before) (b .within) n; is = refl };
-  from = b .before;
-  upto = n .after;
-}
+pub stands-from : {cs : List ℤ} {k start stop : ℕ} → Begin cs k start → End cs k stop → Stands cs (part cs start stop) start stop
+stands-from {cs} b n = record { begins = b .behind; ends = found-back (EndsAt cs) (b .before) (b .within) n; is = refl }
 
 -- there is one
 pub around-one : {cs C D : List ℤ} {k : ℕ} → Around cs k C → Around cs k D → C ≡ D

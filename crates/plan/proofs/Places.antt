@@ -39,14 +39,17 @@ module _ (P : ℕ → Type 0) where
     | no d ↦ w k (omega arith) b p
   ]
 
+  without-join : {from at end : ℕ} → Without P from at → Without P at end → Without P from end
+  without-join {from} {at} v w k a b p = elim (decLt k at) [
+    | yes l ↦ v k a l p
+    | no o ↦ w k (omega arith) b p
+  ]
+
+  pub first-back : {from at end r : ℕ} → from ≤ at → Without P from at → First P at end r → First P from end r
+  first-back a w f = record { after = omega (arith, f .after); inside = f .inside; before = without-join w (f .before); here = f .here }
+
   pub found-back : {from at end r : ℕ} → from ≤ at → Without P from at → Found P at end r → Found P from end r
-  found-back {from} {at} {end} {r} a w f = record { after = omega (arith, f .after); inside = f .inside; before = before; here = f .here }
-    where
-      before : Without P from r
-      before k x y p = elim (decLt k at) [
-        | yes l ↦ w k x l p
-        | no o ↦ f .before k (omega arith) y p
-      ]
+  found-back a w f = record { after = omega (arith, f .after); inside = f .inside; before = without-join w (f .before); here = f .here }
 
   pub found-on : {from at end r : ℕ} → Found P from end r → from ≤ at → at ≤ r → Found P at end r
   found-on f a b = record { after = b; inside = f .inside; before = λ k x y. f .before k (omega arith) y; here = f .here }

@@ -2,10 +2,10 @@
 -- Assumes nothing.
 use mathlib.Core.Path.{_≡_}
 use mathlib.Core.List.{List}
-use Prim.Native.Nat.{ℕ, _-_, _≤_, _<_}
+use Prim.Native.Nat.{ℕ, _+_, _-_, _≤_, _<_}
 use lib.ListN.{length, getD, take, drop}
 use lib.IntN.{ℤ, pos}
-use Rattle.plan.specs.Ranged.{LiteralFits}
+use Rattle.plan.specs.Ranged.{maxClauses, maxLiterals, LiteralFits}
 use Rattle.plan.specs.Places.{Without, Found}
 
 -- "the clause's literals, then one 0": the 0 of a clause is at place k.
@@ -15,6 +15,10 @@ EndsAt cs k = getD cs k (pos 0) ≡ pos 0
 -- The last clause has its 0.
 abbrev pub Ended : List ℤ → Type 0
 Ended cs = EndsAt cs (length cs - 1)
+
+-- The room of a clause table: docs/LAYOUT.md.
+abbrev pub maxTable : ℕ
+maxTable = maxLiterals + maxClauses
 
 -- A clause table: a 0 ends it, and what is not 0 is a literal.
 pub record Table (variables : ℕ) (cs : List ℤ) : Type 0 where

@@ -97,7 +97,7 @@ impl Clause {
 
 // An assignment: the value of variable v, 1 on, -1 off, 0 open, stands at place v - 1.
 pub struct Assignment {
-    pub values: [i8; 512],
+    pub values: [i8; Assignment::MAX],
 }
 
 impl Assignment {
