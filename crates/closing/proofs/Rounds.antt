@@ -214,7 +214,7 @@ module _ (p : Plan) (es bs : List ℕ) (cs : List ℤ) (lent : Lent p es bs cs) 
     round-set e copy begins w z b = record { onward = onward-then (planOf p es bs cs) v u w (seen .onward) next; turns = turns z (b .passes) }
       where
         next : Onward (planOf p es bs cs) u w
-        next = b .onward (planOf p es bs cs) (lent-has-clauses p es bs cs lent u (seen .onward .shape))
+        next = b .steps .onward (planOf p es bs cs) (lent-has-clauses p es bs cs lent u (seen .onward .shape))
 
         fewer : opens u < opens v
         fewer = subst (λ x. Tells (Clashes (planOf p es bs cs) (trueIn v)) v u x) e (seen .tells)

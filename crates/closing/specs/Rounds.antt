@@ -3,15 +3,14 @@
 use mathlib.Core.Bool.{Bool, true, false}
 use mathlib.Core.List.{List}
 use Prim.Native.Nat.{ℕ, _<_}
-use lib.ListN.{length}
 use lib.IntN.{ℤ}
 use lib.Dec.{T}
 use Rattle.plan.specs.Meaning.{PlanFile, trueIn}
 use Rattle.plan.specs.Closing.{Clashes}
-use Rattle.plan.specs.Search.{Assigned, opens}
+use Rattle.plan.specs.Search.{opens}
 use Rattle.plan.specs.Tables.{edgesOf, clausesOf}
 use Rattle.unit.specs.Onward.{Onward}
-use Rattle.unit.specs.Clauses.{HasClauses, ClauseClash, AllQuiet}
+use Rattle.unit.specs.Clauses.{ByClauses, ClauseClash, AllQuiet}
 use Rattle.closing.specs.Atoms.{SameEdges, AtomsQuiet}
 use Rattle.closing.specs.declared.Step.{Step}
 use Rattle.closing.specs.declared.Step.the-variants.{Clash, Set, Still}
@@ -28,8 +27,7 @@ Passes es cs b v w Set = AllQuiet (trueIn w) (clausesOf cs)
 Passes es cs b v w Still = AllQuiet (trueIn w) (clausesOf cs) × SameEdges (edgesOf es) b w
 
 pub record PassedOn (es : List ℕ) (cs b v w : List ℤ) (r : Step) : Type 0 where
-  pub shape : Assigned (length v) w
-  pub onward : (φ : PlanFile) → HasClauses (length v) cs φ → Onward φ v w
+  pub steps : ByClauses cs v w
   pub passes : Passes es cs b v w r
 
 -- One round: a clash, or more to do with fewer open variables, or all is quiet.

@@ -1,3 +1,4 @@
+use index::Index;
 use plan::Assignment;
 use plan::Atom;
 use plan::Edge;
@@ -251,7 +252,7 @@ fn look_at_atoms(edges: &[u16], atoms: &[u16], count: usize, values: &mut [i8]) 
     }
 }
 
-fn copy_of(values: &[i8]) -> [i8; 512]
+fn copy_of(values: &[i8]) -> [i8; Assignment::MAX]
     requires { ⌜ length (now values) ≤ 512 ⌝ }
     ensures { λ r. ⌜ BeginsWith r (now (values .entry)) ⌝ }
 {
@@ -265,7 +266,7 @@ fn copy_of(values: &[i8]) -> [i8; 512]
 }
 
 // Whether every edge's variable is as it was.
-fn same_edges(edges: &[u16], before: &[i8; 512], values: &[i8]) -> bool
+fn same_edges(edges: &[u16], before: &[i8; Assignment::MAX], values: &[i8]) -> bool
     requires { ⌜ length (now values) ≤ 512 ⌝ }
     requires { ⌜ Placed (edgesOf (now edges)) (length (now values)) ⌝ }
     ensures { λ r. ⌜ Unchanged (now (edges .entry)) (now (before .entry)) (now (values .entry)) r ⌝ }
@@ -287,8 +288,8 @@ fn same_edges(edges: &[u16], before: &[i8; 512], values: &[i8]) -> bool
 fn pass_on(
     edges: &[u16],
     clauses: &[i16],
-    places: &[u16; 6145],
-    before: &[i8; 512],
+    places: &[u16; Index::TABLE],
+    before: &[i8; Assignment::MAX],
     values: &mut [i8],
 ) -> Step
     requires { ⌜ Ready (now clauses) (now values) ⌝ }
@@ -312,7 +313,7 @@ fn round(
     edges: &[u16],
     atoms: &[u16],
     clauses: &[i16],
-    places: &[u16; 6145],
+    places: &[u16; Index::TABLE],
     values: &mut [i8],
 ) -> Step
     requires { ⌜ Lent plan (now edges) (now atoms) (now clauses) ⌝ }
@@ -337,7 +338,7 @@ pub fn close_after(
     edges: &[u16],
     atoms: &[u16],
     clauses: &[i16],
-    places: &[u16; 6145],
+    places: &[u16; Index::TABLE],
     tried: i16,
     values: &mut [i8],
 ) -> bool

@@ -1,14 +1,17 @@
+// index: where each number of a clause table stands.
 use plan::Assignment;
 use plan::Clause;
 ghost use mathlib.Core.Path.{_≡_};
 ghost use Prim.Native.Nat.{_<_, _≤_};
 ghost use lib.IntN.{natAbs};
 ghost use lib.ListN.{getD};
+ghost use Rattle.plan.specs.Ranged.{maxVariables};
+ghost use Rattle.plan.specs.ClauseTable.{maxTable};
 ghost use Rattle.index.specs.Places.{slot, slotBehind, Indexable, Indexed};
 
 // Where the numbers of a clause table stand: each number's first place and, for each place, the next one that holds the same number.
 pub struct Index {
-    pub places: [u16; 6145],
+    pub places: [u16; Index::TABLE],
 }
 
 impl Index {
@@ -20,7 +23,7 @@ impl Index {
 
 // Where an index keeps a number's first place.
 fn slot_of(number: i16) -> usize
-    requires { ⌜ natAbs number ≤ 512 ⌝ }
+    requires { ⌜ natAbs number ≤ maxVariables ⌝ }
     ensures { λ r. ⌜ r ≡ slot number ⌝ }
 {
     let variable = plan::variable_of(number);
@@ -48,8 +51,8 @@ pub fn index_of(clauses: &[i16]) -> Index
 }
 
 // A number's first place.
-pub fn first_place(places: &[u16; 6145], number: i16) -> usize
-    requires { ⌜ natAbs number ≤ 512 ⌝ }
+pub fn first_place(places: &[u16; Index::TABLE], number: i16) -> usize
+    requires { ⌜ natAbs number ≤ maxVariables ⌝ }
     ensures { λ r. ⌜ r ≡ getD (now (places .entry)) (slot number) 0 ⌝ }
 {
     let slot = slot_of(number);
@@ -57,8 +60,8 @@ pub fn first_place(places: &[u16; 6145], number: i16) -> usize
 }
 
 // The next place that holds the same number as this one.
-pub fn next_place(places: &[u16; 6145], place: usize) -> usize
-    requires { ⌜ place < 5120 ⌝ }
+pub fn next_place(places: &[u16; Index::TABLE], place: usize) -> usize
+    requires { ⌜ place < maxTable ⌝ }
     ensures { λ r. ⌜ r ≡ getD (now (places .entry)) (slotBehind place) 0 ⌝ }
 {
     plan::wide(places[Index::FIRSTS + place])

@@ -10,9 +10,11 @@ use lib.ListN.{length}
 use Rattle.plan.specs.Meaning.{Full}
 use Rattle.plan.specs.Search.{Assigned}
 use Rattle.plan.specs.Tables.{atomsOf, Lent}
+use Rattle.plan.specs.ClauseTable.{Table}
 use Rattle.plan.specs.declared.Plan.{Plan}
+use Rattle.plan.proofs.ClauseTable.{lent-table}
 use Rattle.walk.proofs.Lending.{atom-from, atom-to}
-use Rattle.judge.specs.Verdicts.{ClausesFit, AtomsFit}
+use Rattle.judge.specs.Verdicts.{AtomsFit}
 
 pub full-assigned : (n : ℕ) (a : List ℤ) → Full n a → Assigned (length a) a
 full-assigned n a f = subst (λ k. Assigned k a) (sym (f .long)) (record { long = f .long; each = λ i l. ⊎-elim (λ e. inl e) (λ e. inr (inl e)) (f .each i l) })
@@ -21,11 +23,8 @@ module _ {p : Plan} {es bs : List ℕ} {cs : List ℤ} (l : Lent p es bs cs) (n 
   pub few : n ≤ 512
   few = omega (arith, l .ranged .variables)
 
-  pub lent-clauses : ClausesFit n cs
-  lent-clauses = record {
-    ended = l .ended;
-    literal = λ C m x i. record { low = l .ranged .literal C m x i .low; high = omega (arith, l .ranged .literal C m x i .high) };
-  }
+  pub lent-clauses : Table n cs
+  lent-clauses = rw h (lent-table l)
 
   pub lent-atoms : AtomsFit n (atomsOf bs)
   lent-atoms A m = (atom-from l A m, atom-to l A m, l .ranged .atom A m .low, omega (arith, l .ranged .atom A m .high))

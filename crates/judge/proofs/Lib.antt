@@ -1,4 +1,3 @@
 pub mod Passing
-pub mod Clauses
 pub mod Rights
 pub mod Lending

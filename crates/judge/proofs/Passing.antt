@@ -13,10 +13,6 @@ pub data Passed {A : Type 0} (P : A → Type 0) (xs : List A) : ℕ → List A �
   next : {k : ℕ} {y : A} {ys : List A} → Passed P xs k (y ∷ ys) → P y → Passed P xs (suc k) ys
 
 module _ {A : Type 0} {P : A → Type 0} {xs : List A} where
-  pub passed-mem : {k : ℕ} {ys : List A} → Passed P xs k ys → (y : A) → List·Memᴰ y ys → List·Memᴰ y xs
-  passed-mem start y m = m
-  passed-mem (next p h) y m = passed-mem p y (List·Memᴰ·tail m)
-
   pub passed-all : {k : ℕ} {ys : List A} → Passed P xs k ys → ((y : A) → List·Memᴰ y ys → P y) → (y : A) → List·Memᴰ y xs → P y
   passed-all start f = f
   passed-all (next {y = x} p h) f = passed-all p (λ y m. ⊎-elim (λ e. subst P (sym e) h) (λ t. f y t) (List·Memᴰ·cases-cons m))

@@ -1,19 +1,15 @@
 -- The answer of judging as the document's verdict, and what the inner functions promise one another.
 -- Assumes nothing.
-use mathlib.Core.Path.{_≡_}
 use mathlib.Core.Logic.{_↔_}
 use mathlib.Core.Bool.{Bool}
 use mathlib.Core.List.{List, List·Memᴰ}
 use Prim.Native.Nat.{ℕ, _≤_, _<_}
-use lib.ListN.{length, getD}
-use lib.IntN.{ℤ, pos}
+use lib.IntN.{ℤ}
 use lib.Dec.{T}
 use Rattle.plan.specs.Meaning.{Edge, Atom, IsTrue, on, trueIn, under}
 use Rattle.plan.specs.Ranged.{LiteralFits}
 use Rattle.plan.specs.Judging.{FirstWithout, plan, no-true, wrong}
 use Rattle.plan.specs.Judging as judging
-use Rattle.plan.specs.Tables.{clausesOf}
-use Rattle.plan.specs.Written.{flat}
 use Rattle.walk.specs.Hopping.{HopTable}
 use Rattle.walk.specs.declared.Hops.{Hops}
 use Rattle.judge.specs.declared.Verdict.{Verdict}
@@ -43,18 +39,6 @@ RightBy a A h r = (es : List Edge) → HopTable es (under (trueIn a)) (A .from) 
 abbrev pub LiteralsFit : ℕ → List ℤ → Type 0
 LiteralsFit variables C = (l : ℤ) → List·Memᴰ l C → LiteralFits variables l
 
--- A clause table over so many variables.
-pub record ClausesFit (variables : ℕ) (cs : List ℤ) : Type 0 where
-  pub ended : flat (clausesOf cs) ≡ cs
-  pub literal : (C : List ℤ) → List·Memᴰ C (clausesOf cs) → LiteralsFit variables C
-
 -- Atoms between nodes below 64, over so many variables.
 abbrev pub AtomsFit : ℕ → List Atom → Type 0
 AtomsFit variables As = (A : Atom) → List·Memᴰ A As → (A .from < 64) × (A .to < 64) × (1 ≤ A .variable) × (A .variable ≤ variables)
-
--- The first 0 at or behind a place of a table.
-pub record NextEnd (cs : List ℤ) (from end : ℕ) : Type 0 where
-  pub after : from ≤ end
-  pub within : end < length cs
-  pub is-zero : getD cs end (pos 0) ≡ pos 0
-  pub before : (k : ℕ) → from ≤ k → k < end → getD cs k (pos 0) ≡ pos 0 → ⊥

@@ -10,9 +10,9 @@ ghost use Rattle.plan.specs.Meaning.{Full, HasTrue};
 ghost use Rattle.plan.specs.Search.{Assigned};
 ghost use Rattle.plan.specs.Judging.{Judged};
 ghost use Rattle.plan.specs.Tables.{edgesOf, atomsOf, atomOf, clausesOf, planOf, Lent};
-ghost use Rattle.plan.specs.Written.{flat};
+ghost use Rattle.plan.specs.ClauseTable.{Table};
 ghost use Rattle.walk.specs.Hopping.{Inside, Placed, Walked};
-ghost use Rattle.judge.specs.Verdicts.{verdictOf, FirstIs, RightIn, RightBy, LiteralsFit, ClausesFit, AtomsFit, NextEnd};
+ghost use Rattle.judge.specs.Verdicts.{verdictOf, FirstIs, RightIn, RightBy, LiteralsFit, AtomsFit};
 
 // What an assignment is: a plan, or the number of the first clause without a true literal, or of the first atom whose variable is wrong.
 pub enum Verdict {
@@ -25,19 +25,6 @@ pub enum Verdict {
 pub enum First {
     Nowhere,
     At(usize),
-}
-
-// The place of the first 0 at or behind `from`.
-fn end_of(clauses: &[i16], from: usize) -> usize
-    requires { ⌜ flat (clausesOf (now clauses)) ≡ now clauses ⌝ }
-    requires { ⌜ from < length (now clauses) ⌝ }
-    ensures { λ r. ⌜ NextEnd (now (clauses .entry)) from r ⌝ }
-{
-    let mut at = from;
-    while clauses[at] != 0 {
-        at += 1;
-    }
-    at
 }
 
 // Whether a clause has a true literal.
@@ -63,13 +50,13 @@ fn has_true(assignment: &[i8], clause: &[i16]) -> bool
 fn first_untrue(assignment: &[i8], clauses: &[i16]) -> First
     requires { ⌜ Assigned (length (now assignment)) (now assignment) ⌝ }
     requires { ⌜ length (now assignment) ≤ 512 ⌝ }
-    requires { ⌜ ClausesFit (length (now assignment)) (now clauses) ⌝ }
+    requires { ⌜ Table (length (now assignment)) (now clauses) ⌝ }
     ensures { λ r. ⌜ FirstIs (HasTrue (now (assignment .entry))) (clausesOf (now (clauses .entry))) r ⌝ }
 {
     let mut at = 0;
     let mut number = 0;
     while at < clauses.len() {
-        let end = end_of(clauses, at);
+        let end = plan::clauses::end_of(clauses, at);
         number += 1;
         if !has_true(assignment, &clauses[at..end]) {
             return First::At(number);

@@ -17,3 +17,4 @@ pub mod Literals
 pub mod Cases
 pub mod Refusals
 pub mod Places
+pub mod ClauseTable

@@ -2,10 +2,10 @@
 -- Assumes nothing.
 use mathlib.Core.Path.{_≡_, subst}
 use mathlib.Core.Logic.{_⊎_, inl, inr}
-use Prim.Native.Nat.{ℕ, _+_, _≤_, _<_}
-use native.Mathlib.Decide.{decLt}
+use Prim.Native.Nat.{ℕ, zero, suc, _+_, _-_, _≤_, _<_}
+use native.Mathlib.Decide.{decLt, ℕ-discrete}
 use native.Mathlib.Omega.{arith}
-use Rattle.plan.specs.Places.{Without, First}
+use Rattle.plan.specs.Places.{Without, First, Found}
 
 module _ (P : ℕ → Type 0) where
   pub without-none : (from : ℕ) → Without P from from
@@ -31,3 +31,41 @@ module _ (P : ℕ → Type 0) where
       | no n ↦ omega arith
     ]
   ]
+
+  -- the same from an earlier place on, and from a later one
+  pub without-back : {from at : ℕ} → Without P from at → (P (from - 1) → ⊥) → Without P (from - 1) at
+  without-back {from} {at} w n k a b p = elim (ℕ-discrete k (from - 1)) [
+    | yes e ↦ n (subst P e p)
+    | no d ↦ w k (omega arith) b p
+  ]
+
+  without-join : {from at end : ℕ} → Without P from at → Without P at end → Without P from end
+  without-join {from} {at} v w k a b p = elim (decLt k at) [
+    | yes l ↦ v k a l p
+    | no o ↦ w k (omega arith) b p
+  ]
+
+  pub first-back : {from at end r : ℕ} → from ≤ at → Without P from at → First P at end r → First P from end r
+  first-back a w f = record { after = omega (arith, f .after); inside = f .inside; before = without-join w (f .before); here = f .here }
+
+  pub found-back : {from at end r : ℕ} → from ≤ at → Without P from at → Found P at end r → Found P from end r
+  found-back a w f = record { after = omega (arith, f .after); inside = f .inside; before = without-join w (f .before); here = f .here }
+
+  pub found-on : {from at end r : ℕ} → Found P from end r → from ≤ at → at ≤ r → Found P at end r
+  found-on f a b = record { after = b; inside = f .inside; before = λ k x y. f .before k (omega arith) y; here = f .here }
+
+  pub found-one : {from end r s : ℕ} → Found P from end r → Found P from end s → r ≡ s
+  found-one f g = first-one (first f) (first g)
+    where
+      first : {from end r : ℕ} → Found P from end r → First P from end r
+      first f = record { after = f .after; inside = omega (arith, f .inside); before = f .before; here = λ l. f .here }
+
+  -- a place that has it lies ahead, so there is a first one
+  module _ (p? : (k : ℕ) → Dec (P k)) (last end : ℕ) (h : last < end) (is : P last) where
+    pub found-ahead : (n from : ℕ) → from + n ≡ last → (r : ℕ) × (r ≤ last) × Found P from end r
+    found-ahead zero from e = (last, omega arith, record { after = omega arith; inside = h; before = λ k a b. absurd (omega arith); here = is })
+    found-ahead (suc n) from e = go (p? from) (found-ahead n (from + 1) (omega arith))
+      where
+        go : Dec (P from) → (r : ℕ) × (r ≤ last) × Found P (from + 1) end r → (r : ℕ) × (r ≤ last) × Found P from end r
+        go (yes y) q = (from, omega arith, record { after = omega arith; inside = omega arith; before = without-none from; here = y })
+        go (no n) q = (q .0, q .1, found-back (omega arith) (without-more (without-none from) n) (q .2))

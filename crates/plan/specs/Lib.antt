@@ -8,4 +8,5 @@ pub mod Written
 pub mod Tables
 pub mod Buffers
 pub mod Places
+pub mod ClauseTable
 pub mod Refusals

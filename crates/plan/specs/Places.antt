@@ -12,3 +12,10 @@ pub record First (P : ℕ → Type 0) (from end r : ℕ) : Type 0 where
   pub inside : r ≤ end
   pub before : Without P from r
   pub here : r < end → P r
+
+-- The same where there is one.
+pub record Found (P : ℕ → Type 0) (from end r : ℕ) : Type 0 where
+  pub after : from ≤ r
+  pub inside : r < end
+  pub before : Without P from r
+  pub here : P r

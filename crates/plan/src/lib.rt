@@ -1,3 +1,5 @@
+pub mod clauses;
+
 ghost use mathlib.Core.Path.{_≡_};
 ghost use Prim.Native.Nat.{_+_, _*_, _<_, _≤_};
 ghost use lib.IntN.{pos, negsuc, negℤ, natAbs};
@@ -109,7 +111,7 @@ impl Clause {
 
 // An assignment: the value of variable v, 1 on, -1 off, 0 open, stands at place v - 1.
 pub struct Assignment {
-    pub values: [i8; 512],
+    pub values: [i8; Assignment::MAX],
 }
 
 impl Assignment {

@@ -12,7 +12,7 @@ use Rattle.plan.specs.Ranged.{Ranged, literals}
 use Rattle.plan.specs.Written.{flat}
 use Rattle.plan.specs.Tables.{edgesOf, atomsOf, clausesOf, planOf, Lent}
 use Rattle.plan.specs.declared.Plan as counted
-use Rattle.plan.proofs.Tables.{clauses-back}
+use Rattle.plan.proofs.ClauseTable.{clauses-back}
 use Rattle.reader.specs.Format.{accepted, readPlan}
 use Rattle.reader.specs.Filling.{flatEdges, flatAtoms, Answers}
 use Rattle.reader.specs.declared.ReadAnswer.{ReadAnswer}

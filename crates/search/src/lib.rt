@@ -1,3 +1,4 @@
+use index::Index;
 use plan::Assignment;
 use plan::Plan;
 ghost use mathlib.Core.Path.{_≡_};
@@ -6,6 +7,7 @@ ghost use Prim.Native.Nat.{_≤_};
 ghost use lib.IntN.{ℤ};
 ghost use lib.ListN.{length, take};
 ghost use Rattle.plan.specs.Meaning.{trueIn};
+ghost use Rattle.plan.specs.Ranged.{maxVariables};
 ghost use Rattle.plan.specs.Search.{Assigned, Closes, CloseIs, Lowest};
 ghost use Rattle.plan.specs.Tables.{clausesOf, planOf, Lent};
 ghost use Rattle.index.specs.Places.{Indexed};
@@ -39,7 +41,7 @@ fn closed(
     edges: &[u16],
     atoms: &[u16],
     clauses: &[i16],
-    places: &[u16; 6145],
+    places: &[u16; Index::TABLE],
     a: Assignment,
     tried: i16,
 ) -> Part
@@ -76,7 +78,7 @@ fn lowest_open(values: &[i8], from: usize) -> usize
 
 // The lowest open variable's place in an assignment.
 fn open_place(plan: Plan, a: Assignment, from: usize) -> usize
-    requires { ⌜ plan .variables ≤ 512 ⌝ }
+    requires { ⌜ plan .variables ≤ maxVariables ⌝ }
     requires { ⌜ from ≤ plan .variables ⌝ }
     ensures { λ r. ⌜ FirstOpen (take (plan .variables) (a .values)) from r ⌝ }
 {
@@ -91,7 +93,7 @@ fn settle(
     edges: &[u16],
     atoms: &[u16],
     clauses: &[i16],
-    places: &[u16; 6145],
+    places: &[u16; Index::TABLE],
     a: Assignment,
     tried: i16,
     from: usize,
@@ -141,7 +143,7 @@ fn branch(
     edges: &[u16],
     atoms: &[u16],
     clauses: &[i16],
-    places: &[u16; 6145],
+    places: &[u16; Index::TABLE],
     a: Assignment,
     place: usize,
     budget: u32,
@@ -204,7 +206,7 @@ pub enum Found {
 
 // Writes a plan into the result.
 fn write(plan: Plan, a: Assignment, result: &mut [i8])
-    requires { ⌜ plan .variables ≤ 512 ⌝ }
+    requires { ⌜ plan .variables ≤ maxVariables ⌝ }
     requires { ⌜ length (now result) ≡ plan .variables ⌝ }
     ensures { λ _. ⌜ now (result .exit) ≡ take (plan .variables) (a .values) ⌝ }
 {

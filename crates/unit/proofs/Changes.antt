@@ -2,7 +2,7 @@
 -- Assumes nothing.
 use mathlib.Core.Path.{_≡_, refl, sym, subst, _∙_, ap}
 use mathlib.Core.Logic.{_⊎_, inl, inr, _≢_}
-use mathlib.Core.Bool.{Bool, true, false, not}
+use mathlib.Core.Bool.{Bool, true, false}
 use mathlib.Core.List.{List, _∷_, List·Memᴰ}
 use Prim.Native.Nat.{ℕ, zero, suc, _+_, _≤_, _<_}
 use native.Mathlib.Decide.{ℕ-discrete}
@@ -13,9 +13,8 @@ use lib.Seq.{drop-cons, drop-length, getD-set-same, getD-set-other}
 use lib.IntN.{ℤ, pos, negsuc, negℤ, negℤ-negℤ}
 use lib.Signed.{ltZ}
 use lib.Dec.{T}
-use borrow.Author.Tests.{ltb-true}
 use Rattle.plan.specs.Meaning.{on, off, isOn, isOff, value, trueIn}
-use Rattle.plan.specs.Ranged.{LiteralFits}
+use Rattle.plan.specs.Ranged.{maxVariables, LiteralFits}
 use Rattle.plan.specs.Search.{opens}
 use Rattle.plan.specs.Tables.{literalOf}
 use Rattle.plan.proofs.Add.{IsValue, on-one, off-one}
@@ -25,18 +24,9 @@ use Rattle.unit.specs.Clauses.{Quiet}
 use Rattle.unit.specs.Queue.{Waits, Pending, None, Above, Since, literalAt, Queued}
 use Rattle.unit.proofs.Calm.{quiet-or-false}
 
--- the literal of a place and its value, as the code makes it
-pub literal-is : (i : ℕ) (x : ℤ) → literalOf (not (ltZ x (pos 0))) (i + 1) ≡ literalAt i x
-literal-is i (pos n) = go (ltZ (pos n) (pos 0)) refl
-  where
-    go : (b : Bool) → ltZ (pos n) (pos 0) ≡ b → literalOf (not b) (i + 1) ≡ on (i + 1)
-    go false e = refl
-    go true e = let h : n < 0 = ltb-true n 0 e in absurd (omega arith)
-literal-is i (negsuc n) = refl
-
-literal-fits : (n i : ℕ) (x : ℤ) → i < n → LiteralFits n (literalAt i x)
-literal-fits n i (pos k) h = record { low = omega arith; high = omega arith }
-literal-fits n i (negsuc k) h = let e = natAbs-neg (pos (i + 1)) in record { low = omega arith; high = omega arith }
+literal-fits : (n i : ℕ) (sign : Bool) → i < n → LiteralFits n (literalOf sign (i + 1))
+literal-fits n i true h = record { low = omega arith; high = omega arith }
+literal-fits n i false h = let e = natAbs-neg (pos (i + 1)) in record { low = omega arith; high = omega arith }
 
 -- one place more is at most one more that is open, and none where it has a value
 opens-more : (x : ℤ) (a : List ℤ) → opens (x ∷ a) ≤ suc (opens a)
@@ -76,13 +66,13 @@ InQueue p end l = (k : ℕ) × (k < end) × (getD p k (pos 0) ≡ l)
 -- the changes at the first i places are in the queue
 pub record Queueing (b v p : List ℤ) (end i : ℕ) : Type 0 where
   pub inside : i ≤ length v
-  pub long : length p ≡ 512
+  pub long : length p ≡ maxVariables
   pub short : end ≤ i
   pub room : end + opens v ≤ i + opens (drop i v)
   pub fits : (k : ℕ) → k < end → LiteralFits (length v) (getD p k (pos 0))
   pub there : (j : ℕ) → j < i → getD b j (pos 0) ≢ getD v j (pos 0) → InQueue p end (literalAt j (getD v j (pos 0)))
 
-pub queueing-start : (b v p : List ℤ) → length p ≡ 512 → Queueing b v p 0 0
+pub queueing-start : (b v p : List ℤ) → length p ≡ maxVariables → Queueing b v p 0 0
 queueing-start b v p e = record { inside = omega arith; long = e; short = omega arith; room = omega arith; fits = λ k h. absurd (omega arith); there = λ j h. absurd (omega arith) }
 
 module _ (b v p : List ℤ) (end i : ℕ) (r : Queueing b v p end i) (h : i < length v) where
@@ -98,7 +88,7 @@ module _ (b v p : List ℤ) (end i : ℕ) (r : Queueing b v p end i) (h : i < le
       go j l n (yes q) = absurd (n (rw q e))
       go j l n (no d) = r .there j (omega arith) n
 
-  module _ (small : length v ≤ 512) (kept : Above b v) (apart : getD b i (pos 0) ≢ getD v i (pos 0)) where
+  module _ (small : length v ≤ maxVariables) (kept : Above b v) (apart : getD b i (pos 0) ≢ getD v i (pos 0)) where
     abbrev put : List ℤ
     put = set p end (literalAt i (getD v i (pos 0)))
 
@@ -121,14 +111,14 @@ module _ (b v p : List ℤ) (end i : ℕ) (r : Queueing b v p end i) (h : i < le
         }
       where
         fit : (k : ℕ) → k < end + 1 → Dec (k ≡ end) → LiteralFits (length v) (getD put k (pos 0))
-        fit k l (yes e) = rw e (rw put-here (literal-fits (length v) i (getD v i (pos 0)) h))
+        fit k l (yes e) = rw e (rw put-here (literal-fits (length v) i (ltZ (pos 0) (getD v i (pos 0))) h))
         fit k l (no d) = let m : k < end = omega arith in rw (put-before k m) (r .fits k m)
 
         go : (j : ℕ) → j < i + 1 → getD b j (pos 0) ≢ getD v j (pos 0) → Dec (j ≡ i) → InQueue put (end + 1) (literalAt j (getD v j (pos 0)))
         go j l n (yes e) = (end, omega arith, rw e put-here)
         go j l n (no d) = let q = r .there j (omega arith) n in (q .0, omega (arith, q .1), put-before (q .0) (q .1) ∙ q .2)
 
-pub queueing-ends : (b v p : List ℤ) (end i : ℕ) → Queueing b v p end i → length v ≤ i → length v ≤ 512 → Queued b v p end
+pub queueing-ends : (b v p : List ℤ) (end i : ℕ) → Queueing b v p end i → length v ≤ i → length v ≤ maxVariables → Queued b v p end
 queueing-ends b v p end i r h small =
     let e : i ≡ length v = omega (arith, r .inside) in
     let q : opens (drop i v) ≡ 0 = rw e (opens-end v) in

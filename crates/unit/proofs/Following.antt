@@ -3,33 +3,33 @@
 use mathlib.Core.Path.{_≡_, refl, sym, subst, _∙_, ap}
 use mathlib.Core.Logic.{_⊎_, inl, inr, ⊎-elim}
 use mathlib.Core.Bool.{Bool, true, false}
-use mathlib.Core.List.{List, List·Memᴰ, List·Memᴰ·head, List·Memᴰ·tail, List·Memᴰ·cases-cons, List·Memᴰ·not-nil}
-use Prim.Native.Nat.{ℕ, _+_, _-_, _≤_, _<_}
+use mathlib.Core.List.{List, List·Memᴰ, List·Memᴰ·cases-cons, List·Memᴰ·not-nil}
+use Prim.Native.Nat.{ℕ, _+_, _≤_, _<_}
 use native.Mathlib.Decide.{ℕ-discrete}
 use native.Mathlib.Omega.{arith}
-use lib.ListN.{length, getD, set, drop, length-set, drop-of-length-le}
+use lib.ListN.{length, getD, set, drop, length-set}
 use lib.Seq.{getD-set-same, getD-set-other}
 use lib.IntN.{ℤ, pos, negℤ, negℤ-negℤ}
 use lib.Dec.{T}
 use Rattle.plan.specs.Meaning.{PlanFile, trueIn, add}
-use Rattle.plan.specs.Ranged.{LiteralFits}
+use Rattle.plan.specs.Ranged.{maxVariables, LiteralFits}
 use Rattle.plan.specs.Closing.{unit, all-false}
 use Rattle.plan.specs.Search.{Assigned, opens, nothing}
 use Rattle.plan.specs.Tables.{clausesOf}
+use Rattle.plan.specs.ClauseTable.{Ended, Table, End, BeginsAt, Begin, part, Stands, Around}
 use Rattle.plan.proofs.Add.{add-above, add-has, add-shape, add-opens}
 use Rattle.plan.proofs.Closing.{clash-mono}
 use Rattle.plan.proofs.Exists.{opens-le}
 use Rattle.plan.proofs.Walks.{le-or-lt}
+use Rattle.plan.proofs.ClauseTable.{end-some, first-clause, no-more, stands-in, begins-behind, stands-from, around-one, around-some}
 use Rattle.index.specs.Places.{Place}
-use Rattle.unit.specs.Onward.{Onward}
-use Rattle.unit.specs.Clauses.{Table, Ready, End, Begin, part, Says, Quiet, HasClauses, ClauseClash, Ends, Propagated}
+use Rattle.unit.specs.Clauses.{Ready, Says, Quiet, HasClauses, ByClauses, ClauseClash, Ends, Propagated}
 use Rattle.unit.specs.Queue.{Does, Applied, Waits, Pending, None, Leads, Tried, Known}
 use Rattle.unit.specs.declared.Said.{Said}
 use Rattle.unit.specs.declared.Said.the-variants.{Clash, Gives, Nothing}
 use Rattle.unit.specs.declared.Followed.{Followed}
 use Rattle.unit.proofs.Steps.{onward-none, onward-then, onward-add}
 use Rattle.unit.proofs.Calm.{quiet-or-false, quiet-true, add-only}
-use Rattle.unit.proofs.Around.{Around, end-some, end-whole, first-clause, around-one, around-in, around-some}
 
 sized : {n : ℕ} {v : List ℤ} → Assigned n v → Assigned (length v) v
 sized {n} {v} s = subst (λ k. Assigned k v) (sym (s .long)) s
@@ -40,20 +40,16 @@ shape-of φ h v s = subst (λ k. Assigned k v) (sym (h .size)) s
 pub ready-kept : {cs v w : List ℤ} → Ready cs v → Assigned (length v) w → Ready cs w
 ready-kept {cs} r s = record { shape = sized s; small = omega (arith, r .small, s .long); table = subst (λ n. Table n cs) (sym (s .long)) (r .table) }
 
--- from v to w by what clauses give
-pub record Kept (cs v w : List ℤ) : Type 0 where
-  pub shape : Assigned (length v) w
-  pub onward : (φ : PlanFile) → HasClauses (length v) cs φ → Onward φ v w
+-- several steps by what clauses give
+by-none : (cs v : List ℤ) → Assigned (length v) v → ByClauses cs v v
+by-none cs v s = record { shape = s; onward = λ φ h. onward-none φ v (shape-of φ h v s) }
 
-kept-none : (cs v : List ℤ) → Assigned (length v) v → Kept cs v v
-kept-none cs v s = record { shape = s; onward = λ φ h. onward-none φ v (shape-of φ h v s) }
-
-module _ {cs u v : List ℤ} (k : Kept cs u v) where
+module _ {cs u v : List ℤ} (k : ByClauses cs u v) where
   size-is : (φ : PlanFile) → HasClauses (length u) cs φ → HasClauses (length v) cs φ
   size-is φ h = record { ranged = h .ranged; size = h .size ∙ sym (k .shape .long); clauses = h .clauses }
 
-  kept-then : {w : List ℤ} → Kept cs v w → Kept cs u w
-  kept-then {w} p = record { shape = subst (λ n. Assigned n w) (k .shape .long) (p .shape); onward = λ φ h. onward-then φ u v w (k .onward φ h) (p .onward φ (size-is φ h)) }
+  by-then : {w : List ℤ} → ByClauses cs v w → ByClauses cs u w
+  by-then {w} p = record { shape = subst (λ n. Assigned n w) (k .shape .long) (p .shape); onward = λ φ h. onward-then φ u v w (k .onward φ h) (p .onward φ (size-is φ h)) }
 
   clash-back : ClauseClash cs v → ClauseClash cs u
   clash-back p = λ φ h. k .onward φ h .back nothing (p φ (size-is φ h))
@@ -63,7 +59,7 @@ abbrev Calm : (List ℤ → Type 0) → List ℤ → List ℤ → ℕ → ℕ �
 Calm Left v q head end C = Left C ⊎ (Quiet (trueIn v) C ⊎ Waits q head end C)
 
 -- an empty queue
-pending-start : {cs v q : List ℤ} {Left : List ℤ → Type 0} → length v ≤ 512 → length q ≡ 512 → ((C : List ℤ) → List·Memᴰ C (clausesOf cs) → Calm Left v q 0 0 C)
+pending-start : {cs v q : List ℤ} {Left : List ℤ → Type 0} → length v ≤ maxVariables → length q ≡ maxVariables → ((C : List ℤ) → List·Memᴰ C (clausesOf cs) → Calm Left v q 0 0 C)
     → Pending cs Left v q 0 0
 pending-start {cs} {v} small long calm = record { long = long; room = omega (arith, opens-le v); fits = λ k h. absurd (omega arith); calm = calm }
 
@@ -78,7 +74,7 @@ pending-less {cs} {v} {q} {head} {end} {Left} {Left′} less t = record { long =
 
 -- one literal more, which waits at the queue's end
 module _ {v : List ℤ} {l : ℤ} (s : Assigned (length v) v) (f : LiteralFits (length v) l) (not-true : T (trueIn v l) → ⊥) (not-false : T (trueIn v (negℤ l)) → ⊥) where
-  pub end-inside : (end : ℕ) → end + opens v ≤ 512 → end < 512
+  pub end-inside : (end : ℕ) → end + opens v ≤ maxVariables → end < maxVariables
   end-inside end h = omega (arith, add-opens (length v) v l s (f .low) (f .high) not-true not-false)
 
   module _ {cs q : List ℤ} {head end : ℕ} {Left Left′ : List ℤ → Type 0} (h : head ≤ end) (t : Pending cs Left v q head end)
@@ -125,7 +121,7 @@ module _ {v : List ℤ} {l : ℤ} (s : Assigned (length v) v) (f : LiteralFits (
     }
 
 -- the literal tried, behind an assignment in which every clause is quiet
-pub pending-tried : {cs v : List ℤ} {l : ℤ} (q : List ℤ) → length v ≤ 512 → length q ≡ 512 → Tried cs v l → Pending cs None v (set q 0 l) 0 1
+pub pending-tried : {cs v : List ℤ} {l : ℤ} (q : List ℤ) → length v ≤ maxVariables → length q ≡ maxVariables → Tried cs v l → Pending cs None v (set q 0 l) 0 1
 pending-tried {cs} {v} {l} q small long t =
     let e : Pending cs None (t .before) q 0 0 = pending-start (omega (arith, t .shape .long)) long (λ C i. inr (inl (t .quiet C i))) in
     let f : LiteralFits (length (t .before)) l = subst (λ n. LiteralFits n l) (sym (t .shape .long)) (t .fits) in
@@ -135,101 +131,106 @@ pending-tried {cs} {v} {l} q small long t =
 pub known-nothing : (cs v : List ℤ) → Known cs v (pos 0)
 known-nothing cs v n = absurd (n refl)
 
--- what a clause of the table says is done
-module _ (cs C v w q p : List ℤ) (end : ℕ) (i : List·Memᴰ C (clausesOf cs)) (s : Assigned (length v) v) (r : Followed) where
-  does-kept : (said : Said) → Says v C said → Does v w q p end said r → Kept cs v w
-  does-kept Clash x d = subst (λ y. Kept cs v y) (sym (d .1)) (kept-none cs v s)
-  does-kept (Gives l) x d =
-      subst (λ y. Kept cs v y) (sym (d .2)) (record {
-        shape = add-shape (length v) v l (x .0 .high) s;
-        onward = λ φ h. onward-add φ (h .ranged) v (shape-of φ h v s) l (unit C (subst (λ y. List·Memᴰ C y) (sym (h .clauses)) i) l (x .1 .among) (x .1 .others)) (x .1 .not-false);
+-- the looks at clauses, one after the other, where those of Left are left
+pub record Looks (cs v₀ v q : List ℤ) (Left : List ℤ → Type 0) (head end : ℕ) : Type 0 where
+  pub steps : ByClauses cs v₀ v
+  pub below : head ≤ end
+  pub pending : Pending cs Left v q head end
+
+-- one look: what the clause says is done
+module _ {cs C v₀ v w q p : List ℤ} {Left : List ℤ → Type 0} {at e head end : ℕ} {r : Followed} (s : Looks cs v₀ v q Left head end) (t : Stands cs C at e) (a : Applied cs at v w q p end r) where
+  abbrev shape : Assigned (length v) v
+  shape = sized (s .steps .shape)
+
+  says : Says v C (a .said)
+  says = rw (t .is) (a .says e (t .ends))
+
+  among : {φ : PlanFile} → HasClauses (length v) cs φ → List·Memᴰ C (φ .clauses)
+  among h = rw (h .clauses) (stands-in t)
+
+  does-steps : (said : Said) → Says v C said → Does v w q p end said r → ByClauses cs v w
+  does-steps Clash x d = rw (d .1) (by-none cs v shape)
+  does-steps (Gives l) x d =
+      rw (d .2) (record {
+        shape = add-shape (length v) v l (x .0 .high) shape;
+        onward = λ φ h. onward-add φ (h .ranged) v (shape-of φ h v shape) l (unit C (among h) l (x .1 .among) (x .1 .others)) (x .1 .not-false);
       })
-  does-kept Nothing x d = subst (λ y. Kept cs v y) (sym (d .2)) (kept-none cs v s)
+  does-steps Nothing x d = rw (d .2) (by-none cs v shape)
+
+  look-steps : ByClauses cs v₀ w
+  look-steps = by-then (s .steps) (does-steps (a .said) says (a .does))
 
   does-clash : (said : Said) → r .clash ≡ true → Says v C said → Does v w q p end said r → ClauseClash cs v
-  does-clash Clash e x d = λ φ h R g o. clash-mono φ (trueIn v) R g (all-false C (subst (λ y. List·Memᴰ C y) (sym (h .clauses)) i) x)
+  does-clash Clash e x d = λ φ h R g o. clash-mono φ (trueIn v) R g (all-false C (among h) x)
   does-clash (Gives l) e x d = let n = d .0 in let z : _≡_ {A = ℕ} 0 1 = cc in absurd (omega arith)
   does-clash Nothing e x d = let n = d .0 in let z : _≡_ {A = ℕ} 0 1 = cc in absurd (omega arith)
 
-  does-end : (said : Said) → r .clash ≡ false → Does v w q p end said r → end ≤ r .end
-  does-end Clash e d = let n = d .0 in let z : _≡_ {A = ℕ} 0 1 = cc in absurd (omega arith)
-  does-end (Gives l) e d = omega (arith, d .1)
-  does-end Nothing e d = omega (arith, d .1)
-
-  -- C is left no more
-  module _ (head : ℕ) (Left Left′ : List ℤ → Type 0) (h : head ≤ end) (t : Pending cs Left v q head end)
-      (less : (D : List ℤ) → List·Memᴰ D (clausesOf cs) → Left D → (D ≡ C) ⊎ Left′ D) where
-    less-quiet : (S : List ℤ) → Quiet (trueIn S) C → (D : List ℤ) → (D ≡ C) ⊎ Left′ D → Left′ D ⊎ Quiet (trueIn S) D
-    less-quiet S x D (inl e) = inr (subst (λ y. Quiet (trueIn S) y) (sym e) x)
-    less-quiet S x D (inr y) = inl y
-
-    does-pending : (said : Said) → r .clash ≡ false → Says v C said → Does v w q p end said r → Pending cs Left′ w p head (r .end)
-    does-pending Clash e x d = let n = d .0 in let z : _≡_ {A = ℕ} 0 1 = cc in absurd (omega arith)
-    does-pending (Gives l) e (f, u) d =
-        rw (d .1, d .2, d .3) (pending-add s f (u .not-true) (u .not-false) h t
-        (λ D m y. less-quiet (add v l) (quiet-true (add v l) C l (u .among) (add-has v l (f .low) (f .high))) D (less D m y)))
-    does-pending Nothing e x d = rw (d .1, d .2, d .3) (pending-less (λ D m y. less-quiet v x D (less D m y)) t)
-
--- a look at a clause of the table
-module _ {cs v₀ v w q p : List ℤ} {at e end : ℕ} {r : Followed} (k : Kept cs v₀ v) (a : Applied cs at v w q p end r) (n : End cs at e) (i : List·Memᴰ (part cs at e) (clausesOf cs)) where
-  look-kept : Kept cs v₀ w
-  look-kept = kept-then k (does-kept cs (part cs at e) v w q p end i (sized (k .shape)) r (a .said) (a .says e n) (a .does))
-
-  look-end : r .clash ≡ false → end ≤ r .end
-  look-end t = does-end cs (part cs at e) v w q p end i (sized (k .shape)) r (a .said) t (a .does)
-
-  look-clash : (head : ℕ) → r .clash ≡ true → Leads cs v₀ w p head r
-  look-clash head t = record {
-    shape = look-kept .shape;
-    onward = look-kept .onward;
-    clash = λ u. clash-back k (does-clash cs (part cs at e) v w q p end i (sized (k .shape)) r (a .said) u (a .says e n) (a .does));
-    goes = λ u. let z : _≡_ {A = ℕ} 0 1 = cc in absurd (omega arith);
+  pub look-clash : r .clash ≡ true → Leads cs v₀ w p head r
+  look-clash u = record {
+    steps = look-steps;
+    clash = λ _. clash-back (s .steps) (does-clash (a .said) u says (a .does));
+    goes = λ x. let z : _≡_ {A = ℕ} 0 1 = cc in absurd (omega arith);
   }
 
-  look-pending : {head : ℕ} {Left Left′ : List ℤ → Type 0} → head ≤ end → Pending cs Left v q head end
-      → ((D : List ℤ) → List·Memᴰ D (clausesOf cs) → Left D → (D ≡ part cs at e) ⊎ Left′ D) → r .clash ≡ false → Pending cs Left′ w p head (r .end)
-  look-pending {head} {Left} {Left′} h t less u =
-      does-pending cs (part cs at e) v w q p end i (sized (k .shape)) r head Left Left′ h t less (a .said) u (a .says e n) (a .does)
+  -- C is left no more
+  module _ {Left′ : List ℤ → Type 0} (less : (D : List ℤ) → Left D → (D ≡ C) ⊎ Left′ D) where
+    less-quiet : (S : List ℤ) → Quiet (trueIn S) C → (D : List ℤ) → (D ≡ C) ⊎ Left′ D → Left′ D ⊎ Quiet (trueIn S) D
+    less-quiet S x D (inl e) = inr (rw e x)
+    less-quiet S x D (inr y) = inl y
+
+    does-more : (said : Said) → r .clash ≡ false → Says v C said → Does v w q p end said r → (head ≤ r .end) × Pending cs Left′ w p head (r .end)
+    does-more Clash e x d = let n = d .0 in let z : _≡_ {A = ℕ} 0 1 = cc in absurd (omega arith)
+    does-more (Gives l) e (f, u) d = (
+      omega (arith, s .below, d .1),
+      rw (d .1, d .2, d .3) (pending-add shape f (u .not-true) (u .not-false) (s .below) (s .pending)
+          (λ D m y. less-quiet (add v l) (quiet-true (add v l) C l (u .among) (add-has v l (f .low) (f .high))) D (less D y))),
+    )
+    does-more Nothing e x d = (omega (arith, s .below, d .1), rw (d .1, d .2, d .3) (pending-less (λ D m y. less-quiet v x D (less D y)) (s .pending)))
+
+    pub look-more : r .clash ≡ false → Looks cs v₀ w p Left′ head (r .end)
+    look-more u = let m = does-more (a .said) u says (a .does) in record { steps = look-steps; below = m .0; pending = m .1 }
 
 -- all looks are done
-look-ends : {cs v₀ v q : List ℤ} {head end : ℕ} {Left : List ℤ → Type 0} → Kept cs v₀ v → Pending cs Left v q head end → ((D : List ℤ) → Left D → ⊥)
+pub look-ends : {cs v₀ v q : List ℤ} {head end : ℕ} {Left : List ℤ → Type 0} → ByClauses cs v₀ v → Pending cs Left v q head end → ((D : List ℤ) → Left D → ⊥)
     → Leads cs v₀ v q head (record { clash = false; end = end })
 look-ends k t none = record {
-  shape = k .shape;
-  onward = k .onward;
+  steps = k;
   clash = λ u. let z : _≡_ {A = ℕ} 0 1 = cc in absurd (omega arith);
   goes = λ u. pending-less (λ D m x. absurd (none D x)) t;
 }
 
 pub leads-none : {cs v q : List ℤ} {head end : ℕ} → Assigned (length v) v → Pending cs None v q head end → Leads cs v v q head (record { clash = false; end = end })
-leads-none {cs} {v} s t = look-ends (kept-none cs v s) t (λ D x. x)
+leads-none {cs} {v} s t = look-ends (by-none cs v s) t (λ D x. x)
 
 -- the pass over the clauses, before the one that begins at `at`
+abbrev pub Behind : List ℤ → ℕ → List ℤ → Type 0
+Behind cs at C = List·Memᴰ C (clausesOf (drop at cs))
+
 pub record Passing (cs v₀ v q : List ℤ) (end at : ℕ) : Type 0 where
-  pub kept : Kept cs v₀ v
-  pub among : (C : List ℤ) → List·Memᴰ C (clausesOf (drop at cs)) → List·Memᴰ C (clausesOf cs)
-  pub pending : Pending cs (λ C. List·Memᴰ C (clausesOf (drop at cs))) v q 0 end
+  pub looks : Looks cs v₀ v q (Behind cs at) 0 end
+  pub begins : BeginsAt cs at
 
-pub passing-start : {cs v q : List ℤ} → Ready cs v → length q ≡ 512 → Passing cs v v q 0 0
-passing-start {cs} {v} s long = record { kept = kept-none cs v (s .shape); among = λ C i. i; pending = pending-start (s .small) long (λ C i. inl i) }
+pub passing-start : {cs v q : List ℤ} → Ready cs v → length q ≡ maxVariables → Passing cs v v q 0 0
+passing-start {cs} {v} s long = record {
+  looks = record { steps = by-none cs v (s .shape); below = omega arith; pending = pending-start (s .small) long (λ C i. inl i) };
+  begins = λ h. absurd (omega arith);
+}
 
-module _ {cs v₀ v w q p : List ℤ} {at e end : ℕ} {r : Followed} (s : Passing cs v₀ v q end at) (a : Applied cs at v w q p end r) (n : End cs at e) where
-  first-in : List·Memᴰ (part cs at e) (clausesOf cs)
-  first-in = s .among (part cs at e) (subst (λ x. List·Memᴰ (part cs at e) x) (sym (first-clause cs at e n)) (List·Memᴰ·head refl))
+module _ {cs v₀ v w q p : List ℤ} {at e end : ℕ} {r : Followed} (s : Passing cs v₀ v q end at) (n : End cs at e) (a : Applied cs at v w q p end r) where
+  stands : Stands cs (part cs at e) at e
+  stands = record { begins = s .begins; ends = n; is = refl }
 
   pub pass-clash : r .clash ≡ true → Leads cs v₀ w p 0 r
-  pass-clash = look-clash (s .kept) a n first-in 0
+  pass-clash = look-clash (s .looks) stands a
 
   pub pass-more : r .clash ≡ false → Passing cs v₀ w p (r .end) (e + 1)
   pass-more t = record {
-    kept = look-kept (s .kept) a n first-in;
-    among = λ C i. s .among C (subst (λ x. List·Memᴰ C x) (sym (first-clause cs at e n)) (List·Memᴰ·tail i));
-    pending = look-pending (s .kept) a n first-in (omega arith) (s .pending) (λ D i x. List·Memᴰ·cases-cons (subst (λ y. List·Memᴰ D y) (first-clause cs at e n) x)) t;
+    looks = look-more (s .looks) stands a (λ D x. List·Memᴰ·cases-cons (rw (first-clause cs at e n) at x)) t;
+    begins = begins-behind cs at e n;
   }
 
 pub pass-ends : {cs v₀ v q : List ℤ} {end at : ℕ} → Passing cs v₀ v q end at → length cs ≤ at → Leads cs v₀ v q 0 (record { clash = false; end = end })
-unfolding clausesOf
-pass-ends {cs} s h = look-ends (s .kept) (s .pending) (λ D i. List·Memᴰ·not-nil (subst (λ x. List·Memᴰ D (clausesOf x)) (drop-of-length-le cs h) i))
+pass-ends {cs} {at = at} s h = look-ends (s .looks .steps) (s .looks .pending) (λ D i. List·Memᴰ·not-nil (rw (no-more cs at h) at i))
 
 -- the clause has the number m at a place from `place` on
 pub record Later (cs : List ℤ) (m : ℤ) (place : ℕ) (C : List ℤ) : Type 0 where
@@ -241,10 +242,8 @@ pub record Later (cs : List ℤ) (m : ℤ) (place : ℕ) (C : List ℤ) : Type 0
 
 -- the looks at the clauses that have m, before the one around `place`
 pub record Following (cs v₀ v q : List ℤ) (m : ℤ) (head end place : ℕ) : Type 0 where
-  pub kept : Kept cs v₀ v
-  pub below : head ≤ end
+  pub looks : Looks cs v₀ v q (Later cs m place) head end
   pub here : place < length cs → getD cs place (pos 0) ≡ m
-  pub pending : Pending cs (Later cs m place) v q head end
 
 later-on : {cs : List ℤ} {m : ℤ} {from place : ℕ} → Place cs m from place → (C : List ℤ) (k : ℕ) → from ≤ k → k < length cs → getD cs k (pos 0) ≡ m → Around cs k C
     → Later cs m place C
@@ -257,10 +256,8 @@ later-on {cs} {m} {from} {place} f C k h l e a = record { at = k; after = go (le
 pub following-start : {cs v q : List ℤ} {head end place : ℕ} → Ready cs v → head < end → Pending cs None v q head end → Place cs (negℤ (getD q head (pos 0))) 0 place
     → Following cs v v q (negℤ (getD q head (pos 0))) (head + 1) end place
 following-start {cs} {v} {q} {head} {end} {place} s h t f = record {
-  kept = kept-none cs v (s .shape);
-  below = omega arith;
+  looks = record { steps = by-none cs v (s .shape); below = omega arith; pending = record { long = t .long; room = t .room; fits = t .fits; calm = λ C i. go C i (t .calm C i) } };
   here = f .here;
-  pending = record { long = t .long; room = t .room; fits = t .fits; calm = λ C i. go C i (t .calm C i) };
 }
   where
     waits : (C : List ℤ) → List·Memᴰ C (clausesOf cs) → (x : Waits q head end C) → Dec (x .place ≡ head) → Calm (Later cs (negℤ (getD q head (pos 0))) place) v q (head + 1) end C
@@ -275,47 +272,36 @@ following-start {cs} {v} {q} {head} {end} {place} s h t f = record {
     go C i (inr (inr x)) = waits C i x (ℕ-discrete (x .place) head)
 
 module _ {cs v₀ v w q p : List ℤ} {m : ℤ} {head end place start : ℕ} {r : Followed} (s : Following cs v₀ v q m head end place)
-    (z : getD cs (length cs - 1) (pos 0) ≡ pos 0) (h : place < length cs) (b : Begin cs place start) (a : Applied cs start v w q p end r) where
+    (z : Ended cs) (h : place < length cs) (b : Begin cs place start) (a : Applied cs start v w q p end r) where
   stop : (e : ℕ) × End cs place e
   stop = end-some cs place z h
 
-  whole : End cs start (stop .0)
-  whole = end-whole cs place start (stop .0) b (stop .1)
-
-  here-around : Around cs place (part cs start (stop .0))
-  here-around = record { start = start; stop = stop .0; begins = b; ends = stop .1; is = refl }
-
-  here-in : List·Memᴰ (part cs start (stop .0)) (clausesOf cs)
-  here-in = around-in cs place (part cs start (stop .0)) here-around
+  stands-here : Stands cs (part cs start (stop .0)) start (stop .0)
+  stands-here = stands-from b (stop .1)
 
   pub follow-clash : r .clash ≡ true → Leads cs v₀ w p head r
-  follow-clash = look-clash (s .kept) a whole here-in head
+  follow-clash = look-clash (s .looks) stands-here a
 
   pub follow-more : {next : ℕ} → Place cs (getD cs place (pos 0)) (place + 1) next → r .clash ≡ false → Following cs v₀ w p m head (r .end) next
   follow-more {next} f t = record {
-    kept = look-kept (s .kept) a whole here-in;
-    below = omega (arith, s .below, look-end (s .kept) a whole here-in t);
+    looks = look-more (s .looks) stands-here a (λ D x. go D x (ℕ-discrete (x .at) place)) t;
     here = λ l. f .here l ∙ s .here h;
-    pending = look-pending (s .kept) a whole here-in (s .below) (s .pending) (λ D i x. go D x (ℕ-discrete (x .at) place)) t;
   }
     where
       go : (D : List ℤ) (x : Later cs m place D) → Dec (x .at ≡ place) → (D ≡ part cs start (stop .0)) ⊎ Later cs m next D
-      go D x (yes e) = inl (around-one cs place D (part cs start (stop .0)) (subst (λ k. Around cs k D) e (x .around)) here-around)
+      go D x (yes e) = inl (around-one (subst (λ k. Around cs k D) e (x .around)) (record { start = start; stop = stop .0; stands = stands-here; from = b .before; upto = stop .1 .after }))
       go D x (no n) = inr (later-on (subst (λ l. Place cs l (place + 1) next) (s .here h) f) D (x .at) (omega (arith, x .after)) (x .inside) (x .is) (x .around))
 
 pub follow-ends : {cs v₀ v q : List ℤ} {m : ℤ} {head end place : ℕ} → Following cs v₀ v q m head end place → length cs ≤ place → Leads cs v₀ v q head (record { clash = false; end = end })
-follow-ends s h = look-ends (s .kept) (s .pending) (λ D x. omega (arith, x .after, x .inside))
+follow-ends s h = look-ends (s .looks .steps) (s .looks .pending) (λ D x. omega (arith, x .after, x .inside))
 
 -- what several lead to
 module _ {cs u v q : List ℤ} {head : ℕ} {r : Followed} (a : Leads cs u v q head r) where
-  leads-kept : Kept cs u v
-  leads-kept = record { shape = a .shape; onward = a .onward }
-
   pub leads-clash : r .clash ≡ true → Propagated cs u v true
-  leads-clash e = record { shape = a .shape; onward = a .onward; ends = a .clash e }
+  leads-clash e = record { steps = a .steps; ends = a .clash e }
 
   pub leads-ends : r .clash ≡ false → r .end ≤ head → Propagated cs u v false
-  leads-ends e h = record { shape = a .shape; onward = a .onward; ends = λ C i. go C (a .goes e .calm C i) }
+  leads-ends e h = record { steps = a .steps; ends = λ C i. go C (a .goes e .calm C i) }
     where
       go : (C : List ℤ) → Calm None v q head (r .end) C → Quiet (trueIn v) C
       go C (inl x) = absurd x
@@ -323,13 +309,11 @@ module _ {cs u v q : List ℤ} {head : ℕ} {r : Followed} (a : Leads cs u v q h
       go C (inr (inr x)) = absurd (omega (arith, x .from, x .upto))
 
   pub leads-then : {w p : List ℤ} {next : ℕ} {o : Followed} → Leads cs v w p next o → o .clash ≡ false → Leads cs u w p next (record { clash = false; end = o .end })
-  leads-then b e = look-ends (kept-then leads-kept (record { shape = b .shape; onward = b .onward })) (b .goes e) (λ D x. x)
+  leads-then b e = look-ends (by-then (a .steps) (b .steps)) (b .goes e) (λ D x. x)
 
   pub propagated-then : {w : List ℤ} {b : Bool} → Propagated cs v w b → Propagated cs u w b
-  propagated-then {w} {b} x =
-      let k : Kept cs u w = kept-then leads-kept (record { shape = x .shape; onward = x .onward }) in
-      record { shape = k .shape; onward = k .onward; ends = go b (x .ends) }
+  propagated-then {w} {b} x = record { steps = by-then (a .steps) (x .steps); ends = go b (x .ends) }
     where
       go : (b : Bool) → Ends cs v w b → Ends cs u w b
-      go true y = clash-back leads-kept y
+      go true y = clash-back (a .steps) y
       go false y = y

@@ -6,14 +6,14 @@ use mathlib.Core.Bool.{true, false}
 use mathlib.Core.List.{List, List·Memᴰ}
 use Prim.Native.Nat.{ℕ, _+_, _<_, _≤_}
 use lib.ListN.{length, getD, set}
-use lib.IntN.{ℤ, pos, negsuc, negℤ}
+use lib.IntN.{ℤ, pos, negℤ}
+use lib.Signed.{ltZ}
 use lib.Dec.{T}
-use Rattle.plan.specs.Meaning.{PlanFile, _⊆_, trueIn, add, on, off}
-use Rattle.plan.specs.Ranged.{LiteralFits}
+use Rattle.plan.specs.Meaning.{_⊆_, trueIn, add}
+use Rattle.plan.specs.Ranged.{maxVariables, LiteralFits}
 use Rattle.plan.specs.Search.{Assigned, opens}
-use Rattle.plan.specs.Tables.{clausesOf}
-use Rattle.unit.specs.Onward.{Onward}
-use Rattle.unit.specs.Clauses.{SaysAt, Quiet, AllQuiet, HasClauses, ClauseClash}
+use Rattle.plan.specs.Tables.{clausesOf, literalOf}
+use Rattle.unit.specs.Clauses.{SaysAt, Quiet, AllQuiet, ByClauses, ClauseClash}
 use Rattle.unit.specs.declared.Said.{Said}
 use Rattle.unit.specs.declared.Said.the-variants.{Clash, Gives, Nothing}
 use Rattle.unit.specs.declared.Followed.{Followed}
@@ -39,8 +39,8 @@ pub record Waits (q : List ℤ) (head end : ℕ) (C : List ℤ) : Type 0 where
 
 -- Every clause is quiet, or is left to be looked at, or one of its literals waits.
 pub record Pending (cs : List ℤ) (Left : List ℤ → Type 0) (v q : List ℤ) (head end : ℕ) : Type 0 where
-  pub long : length q ≡ 512
-  pub room : end + opens v ≤ 512
+  pub long : length q ≡ maxVariables
+  pub room : end + opens v ≤ maxVariables
   pub fits : (k : ℕ) → k < end → LiteralFits (length v) (getD q k (pos 0))
   pub calm : (C : List ℤ) → List·Memᴰ C (clausesOf cs) → Left C ⊎ (Quiet (trueIn v) C ⊎ Waits q head end C)
 
@@ -50,8 +50,7 @@ None C = ⊥
 
 -- From v to w by what clauses give: a clash, or no clause is left but for what waits from `head` on.
 pub record Leads (cs v w p : List ℤ) (head : ℕ) (r : Followed) : Type 0 where
-  pub shape : Assigned (length v) w
-  pub onward : (φ : PlanFile) → HasClauses (length v) cs φ → Onward φ v w
+  pub steps : ByClauses cs v w
   pub clash : r .clash ≡ true → ClauseClash cs v
   pub goes : r .clash ≡ false → Pending cs None w p head (r .end)
 
@@ -87,12 +86,11 @@ pub record Since (cs b v : List ℤ) : Type 0 where
 
 -- The literal of the variable at place i that has the value x.
 abbrev pub literalAt : ℕ → ℤ → ℤ
-literalAt i (pos n) = on (i + 1)
-literalAt i (negsuc n) = off (i + 1)
+literalAt i x = literalOf (ltZ (pos 0) x) (i + 1)
 
 -- The literals that v has and b has not are in the queue.
 pub record Queued (b v p : List ℤ) (end : ℕ) : Type 0 where
-  pub long : length p ≡ 512
-  pub room : end + opens v ≤ 512
+  pub long : length p ≡ maxVariables
+  pub room : end + opens v ≤ maxVariables
   pub fits : (k : ℕ) → k < end → LiteralFits (length v) (getD p k (pos 0))
   pub there : (i : ℕ) → i < length v → getD b i (pos 0) ≢ getD v i (pos 0) → (k : ℕ) × (k < end) × (getD p k (pos 0) ≡ literalAt i (getD v i (pos 0)))

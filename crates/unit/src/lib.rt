@@ -1,12 +1,17 @@
+// unit: all that the clauses give, by a queue of the literals whose clauses are still to be looked at.
+use index::Index;
+use plan::Assignment;
 ghost use mathlib.Core.Path.{_≡_};
-ghost use Prim.Native.Nat.{_+_, _-_, _<_, _≤_};
+ghost use mathlib.Core.Logic.{_↔_};
+ghost use Prim.Native.Nat.{_+_, _<_, _≤_};
 ghost use lib.IntN.{pos};
-ghost use lib.ListN.{length, getD};
-ghost use Rattle.plan.specs.Ranged.{LiteralFits};
+ghost use lib.Dec.{T};
+ghost use lib.ListN.{length};
+ghost use Rattle.plan.specs.Ranged.{maxVariables, LiteralFits};
 ghost use Rattle.plan.specs.Search.{Assigned, opens};
 ghost use Rattle.index.specs.Places.{Indexed};
-ghost use Rattle.unit.specs.Clauses.{Ready, Stops, Stop, End, Begin, SaysAt, Propagated};
-ghost use Rattle.unit.specs.Queue.{Applied, Pending, None, Leads, Known, Above, Since, literalAt, Queued};
+ghost use Rattle.unit.specs.Clauses.{Ready, Stops, Stop, SaysAt, Propagated};
+ghost use Rattle.unit.specs.Queue.{Applied, Pending, None, Leads, Known, Above, Since, Queued};
 
 // What a clause says of an assignment.
 pub enum Said {
@@ -24,9 +29,9 @@ pub struct Followed {
 // Whether the look at a clause stops at this number: at its 0, and at a literal that is neither false nor the one passed over.
 fn stops(values: &[i8], literal: i16, passed: i16) -> bool
     requires { ⌜ Assigned (length (now values)) (now values) ⌝ }
-    requires { ⌜ length (now values) ≤ 512 ⌝ }
+    requires { ⌜ length (now values) ≤ maxVariables ⌝ }
     requires { ⌜ ((literal ≡ pos 0 → ⊥) → LiteralFits (length (now values)) literal) ⌝ }
-    ensures { λ r. ⌜ Stops (now (values .entry)) literal passed r ⌝ }
+    ensures { λ r. ⌜ (T r ↔ Stops (now (values .entry)) passed literal) ⌝ }
 {
     if literal == 0 {
         return true;
@@ -51,34 +56,6 @@ fn stop_of(clauses: &[i16], from: usize, passed: i16, values: &[i8]) -> usize
         }
         at += 1;
     }
-}
-
-// The place of the 0 that ends a clause.
-fn end_of(clauses: &[i16], from: usize) -> usize
-    requires { ⌜ getD (now clauses) (length (now clauses) - 1) (pos 0) ≡ pos 0 ⌝ }
-    requires { ⌜ from < length (now clauses) ⌝ }
-    ensures { λ r. ⌜ End (now (clauses .entry)) from r ⌝ }
-{
-    let mut at = from;
-    while clauses[at] != 0 {
-        at += 1;
-    }
-    at
-}
-
-// The place at which the clause around a place begins.
-fn start_of(clauses: &[i16], place: usize) -> usize
-    requires { ⌜ place < length (now clauses) ⌝ }
-    ensures { λ r. ⌜ Begin (now (clauses .entry)) place r ⌝ }
-{
-    let mut at = place;
-    while at > 0 {
-        if clauses[at - 1] == 0 {
-            return at;
-        }
-        at -= 1;
-    }
-    at
 }
 
 // Looks at the clause that begins at `at`. A repeated literal is passed over, so it counts once.
@@ -107,12 +84,12 @@ fn apply(
     clauses: &[i16],
     at: usize,
     values: &mut [i8],
-    queue: &mut [i16; 512],
+    queue: &mut [i16; Assignment::MAX],
     end: usize,
 ) -> Followed
     requires { ⌜ Ready (now clauses) (now values) ⌝ }
     requires { ⌜ at < length (now clauses) ⌝ }
-    requires { ⌜ end + opens (now values) ≤ 512 ⌝ }
+    requires { ⌜ end + opens (now values) ≤ maxVariables ⌝ }
     ensures { λ r. ⌜ Applied (now (clauses .entry)) at (now (values .entry)) (now (values .exit)) (now (queue .entry)) (now (queue .exit)) end r ⌝ }
 {
     let said = look_at(clauses, at, values);
@@ -137,9 +114,9 @@ fn apply(
 }
 
 // Looks at every clause once.
-fn pass(clauses: &[i16], values: &mut [i8], queue: &mut [i16; 512]) -> Followed
+fn pass(clauses: &[i16], values: &mut [i8], queue: &mut [i16; Assignment::MAX]) -> Followed
     requires { ⌜ Ready (now clauses) (now values) ⌝ }
-    requires { ⌜ length (now queue) ≡ 512 ⌝ }
+    requires { ⌜ length (now queue) ≡ maxVariables ⌝ }
     ensures { λ r. ⌜ Leads (now (clauses .entry)) (now (values .entry)) (now (values .exit)) (now (queue .exit)) 0 r ⌝ }
 {
     let mut end = 0;
@@ -150,7 +127,7 @@ fn pass(clauses: &[i16], values: &mut [i8], queue: &mut [i16; 512]) -> Followed
             return followed;
         }
         end = followed.end;
-        at = end_of(clauses, at) + 1;
+        at = plan::clauses::end_of(clauses, at) + 1;
     }
     Followed {
         clash: false,
@@ -161,10 +138,10 @@ fn pass(clauses: &[i16], values: &mut [i8], queue: &mut [i16; 512]) -> Followed
 // Looks at every clause that holds the opposite of the literal at the queue's `head`.
 fn follow(
     clauses: &[i16],
-    places: &[u16; 6145],
+    places: &[u16; Index::TABLE],
     head: usize,
     values: &mut [i8],
-    queue: &mut [i16; 512],
+    queue: &mut [i16; Assignment::MAX],
     tail: usize,
 ) -> Followed
     requires { ⌜ Ready (now clauses) (now values) ⌝ }
@@ -176,7 +153,13 @@ fn follow(
     let mut end = tail;
     let mut place = index::first_place(places, plan::opposite(queue[head]));
     while place < clauses.len() {
-        let followed = apply(clauses, start_of(clauses, place), values, queue, end);
+        let followed = apply(
+            clauses,
+            plan::clauses::start_of(clauses, place),
+            values,
+            queue,
+            end,
+        );
         if followed.clash {
             return followed;
         }
@@ -192,9 +175,9 @@ fn follow(
 // Follows every literal of the queue. True: a clash.
 fn follow_all(
     clauses: &[i16],
-    places: &[u16; 6145],
+    places: &[u16; Index::TABLE],
     values: &mut [i8],
-    queue: &mut [i16; 512],
+    queue: &mut [i16; Assignment::MAX],
     tail: usize,
 ) -> bool
     requires { ⌜ Ready (now clauses) (now values) ⌝ }
@@ -216,13 +199,18 @@ fn follow_all(
 }
 
 // Adds all that the clauses give. `tried` is the literal that was added to a closed set, or 0 where nothing is known. True: a clash.
-pub fn propagate(clauses: &[i16], places: &[u16; 6145], tried: i16, values: &mut [i8]) -> bool
+pub fn propagate(
+    clauses: &[i16],
+    places: &[u16; Index::TABLE],
+    tried: i16,
+    values: &mut [i8],
+) -> bool
     requires { ⌜ Ready (now clauses) (now values) ⌝ }
     requires { ⌜ Indexed (now clauses) (now places) ⌝ }
     requires { ⌜ Known (now clauses) (now values) tried ⌝ }
     ensures { λ r. ⌜ Propagated (now (clauses .entry)) (now (values .entry)) (now (values .exit)) r ⌝ }
 {
-    let mut queue = [0i16; 512];
+    let mut queue = [0i16; Assignment::MAX];
     if tried != 0 {
         queue[0] = tried;
         return follow_all(clauses, places, values, &mut queue, 1);
@@ -234,20 +222,16 @@ pub fn propagate(clauses: &[i16], places: &[u16; 6145], tried: i16, values: &mut
     follow_all(clauses, places, values, &mut queue, passed.end)
 }
 
-// The literal of the variable at a place that has this value.
-fn literal_at(place: usize, value: i8) -> i16
-    requires { ⌜ place < 512 ⌝ }
-    ensures { λ r. ⌜ r ≡ literalAt place value ⌝ }
-{
-    plan::literal_of(place + 1, !(value < 0))
-}
-
 // Queues the literals that `values` has and `before` has not. Returns the queue's end.
-fn queue_changes(before: &[i8; 512], values: &[i8], queue: &mut [i16; 512]) -> usize
+fn queue_changes(
+    before: &[i8; Assignment::MAX],
+    values: &[i8],
+    queue: &mut [i16; Assignment::MAX],
+) -> usize
     requires { ⌜ Assigned (length (now values)) (now values) ⌝ }
-    requires { ⌜ length (now values) ≤ 512 ⌝ }
+    requires { ⌜ length (now values) ≤ maxVariables ⌝ }
     requires { ⌜ Above (now before) (now values) ⌝ }
-    requires { ⌜ length (now queue) ≡ 512 ⌝ }
+    requires { ⌜ length (now queue) ≡ maxVariables ⌝ }
     ensures { λ r. ⌜ Queued (now (before .entry)) (now (values .entry)) (now (queue .exit)) r ⌝ }
 {
     let mut end = 0;
@@ -255,7 +239,7 @@ fn queue_changes(before: &[i8; 512], values: &[i8], queue: &mut [i16; 512]) -> u
     while i < values.len() {
         let value = values[i];
         if value != before[i] {
-            queue[end] = literal_at(i, value);
+            queue[end] = plan::literal_of(i + 1, value > 0);
             end += 1;
         }
         i += 1;
@@ -266,8 +250,8 @@ fn queue_changes(before: &[i8; 512], values: &[i8], queue: &mut [i16; 512]) -> u
 // Adds all that the clauses give behind an assignment in which every clause was quiet. True: a clash.
 pub fn propagate_changes(
     clauses: &[i16],
-    places: &[u16; 6145],
-    before: &[i8; 512],
+    places: &[u16; Index::TABLE],
+    before: &[i8; Assignment::MAX],
     values: &mut [i8],
 ) -> bool
     requires { ⌜ Ready (now clauses) (now values) ⌝ }
@@ -275,7 +259,7 @@ pub fn propagate_changes(
     requires { ⌜ Since (now clauses) (now before) (now values) ⌝ }
     ensures { λ r. ⌜ Propagated (now (clauses .entry)) (now (values .entry)) (now (values .exit)) r ⌝ }
 {
-    let mut queue = [0i16; 512];
+    let mut queue = [0i16; Assignment::MAX];
     let end = queue_changes(before, values, &mut queue);
     follow_all(clauses, places, values, &mut queue, end)
 }

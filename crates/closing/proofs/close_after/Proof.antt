@@ -47,7 +47,7 @@ module _ (c : tie.After-propagate Inv-loop μ-loop) where
   has = lent-has-clauses (begin .args .plan) (begin .args .edges .now) (begin .args .atoms .now) (begin .args .clauses .now) (begin .pre .0) given (begin .pre .1 .1 .0)
 
   onward : Onward whole given passed
-  onward = c .propagate .ensures .onward whole has
+  onward = c .propagate .ensures .steps .onward whole has
 
   ends : (b : Bool) → c .propagate .result ≡ b → Ends (begin .args .clauses .now) given passed b
   ends b e = subst (λ r. Ends (begin .args .clauses .now) given passed r) e (c .propagate .ensures .ends)

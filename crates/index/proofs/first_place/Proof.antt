@@ -4,7 +4,7 @@ use native.Mathlib.Omega.{arith}
 use borrow.Author.Needs.{needs}
 use lib.ListN.{getD}
 use mir.Facts.{toZ-ofZ}
-use Rattle.index.specs.Places.{slot}
+use Rattle.index.specs.Places.{slot, firsts}
 use Rattle.index.proofs.Building.{slot-inside}
 use Rattle.index.proofs.first_place.Statement.{statement}
 use Rattle.index.proofs.first_place.Tie as tie
@@ -17,7 +17,7 @@ module _ (c : tie.After-slot-of) where
   is : c .slot-of .result ≡ slot (c .before .args .number)
   is = c .slot-of .ensures ∙ ap slot (toZ-ofZ (c .before .fits .number))
 
-  low : c .slot-of .result < 1025
+  low : c .slot-of .result < firsts
   low = omega (arith, is, slot-inside (c .before .args .number) (c .before .pre))
 
 mul-wide : tie.Need-mul-wide

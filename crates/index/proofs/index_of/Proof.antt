@@ -8,7 +8,9 @@ use lib.ListN.{length, getD}
 use mir.Syntax.{w16}
 use mir.Val.{SFits, toZ, ofZ}
 use mir.Facts.{toZ-ofZ}
-use Rattle.index.specs.Places.{slot}
+use Rattle.plan.specs.Ranged.{maxVariables}
+use Rattle.plan.specs.ClauseTable.{maxTable}
+use Rattle.index.specs.Places.{slot, firsts}
 use Rattle.index.proofs.Building.{Built, slot-inside, built-start, built-more, built-all}
 use Rattle.index.proofs.index_of.Statement.{statement}
 use Rattle.index.proofs.index_of.Tie as tie
@@ -56,7 +58,7 @@ module _ (c : tie.After-slot-of-arg Inv-loop μ-loop) where
   read-back : toZ w16 (ofZ w16 number) ≡ number
   read-back = let f : SFits w16 number = search needs in toZ-ofZ f
 
-  small : natAbs number ≤ 512
+  small : natAbs number ≤ maxVariables
   small = turn .before .before .pre .small (at turn) (inside turn)
 
 slot-of-requires : tie.Need-slot-of-requires Inv-loop μ-loop
@@ -67,10 +69,10 @@ module _ (c : tie.After-slot-of Inv-loop μ-loop) where
   is : c .slot-of .result ≡ slot (number (c .before))
   is = c .slot-of .ensures ∙ ap slot (read-back (c .before))
 
-  low : c .slot-of .result < 1025
+  low : c .slot-of .result < firsts
   low = omega (arith, is, slot-inside (number (c .before)) (small (c .before)))
 
-  short : at (turn (c .before)) < 5120
+  short : at (turn (c .before)) < maxTable
   short = let t = turn (c .before) in omega (arith, inside t, t .before .before .pre .short)
 
 mul-places : tie.Need-mul-places Inv-loop μ-loop

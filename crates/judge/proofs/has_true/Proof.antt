@@ -1,32 +1,37 @@
-use Rattle.plan.specs.Tables.{literalValue}
-use mathlib.Core.Path.{sym, ap, subst, _∙_}
-use borrow.Author.Needs.{needs}
-use borrow.Author.Count.{below-more}
-use lib.IntN.{ℤ}
-use mir.Syntax.{w8, w16}
-use mir.Val.{SFits, ofZ}
-use mir.Facts.{toZ-ofZ}
-use Rattle.plan.proofs.Walks.{mem-at, at-mem}
-use Rattle.plan.proofs.Signs.{bits-eq}
-use Rattle.plan.proofs.Values.{literal-true}
-use mathlib.Core.Path.{_≡_}
-use Prim.Native.Nat.{ℕ, _-_, _<_, _≤_}
+-- The literals of a clause, one by one, up to the first that is true.
+use mathlib.Core.Path.{ap, subst, _∙_}
+use mathlib.Core.List.{List}
+use Prim.Native.Nat.{ℕ, _-_, _≤_}
 use native.Mathlib.Omega.{arith}
+use borrow.Author.Needs.{needs}
+use lib.IntN.{ℤ, pos}
 use lib.ListN.{length, getD}
-use lib.IntN.{pos}
 use lib.Dec.{T}
+use mir.Syntax.{w16}
+use mir.Val.{SFits, ofZ, toZ}
+use mir.Facts.{toZ-ofZ}
+use mathlib.Core.Path.{_≡_}
 use Rattle.plan.specs.Meaning.{trueIn}
+use Rattle.plan.specs.Ranged.{LiteralFits}
+use Rattle.plan.specs.Tables.{literalValue}
+use Rattle.plan.specs.Places.{Without}
+use Rattle.plan.proofs.Walks.{mem-at, at-mem}
+use Rattle.plan.proofs.Literals.{bits-true, true-bits}
+use Rattle.plan.proofs.Places.{without-none, without-more}
 use Rattle.judge.proofs.has_true.Statement.{statement}
 use Rattle.judge.proofs.has_true.Tie as tie
 
+abbrev TrueAt : List ℤ → List ℤ → ℕ → Type 0
+TrueAt a C k = T (trueIn a (getD C k (pos 0)))
+
 abbrev Inv-loop : tie.InvT-loop
-Inv-loop assignment clause k₀ k = (k ≤ length clause) × ((i : ℕ) → i < k → T (trueIn assignment (getD clause i (pos 0))) → ⊥)
+Inv-loop assignment clause k₀ k = (k ≤ length clause) × Without (TrueAt assignment clause) 0 k
 
 abbrev μ-loop : tie.MeasureT-loop
 μ-loop assignment clause k₀ k = length clause - k
 
 loop-holds : tie.Need-loop-holds Inv-loop μ-loop
-loop-holds c = (omega arith, λ i l t. omega arith)
+loop-holds c = (omega arith, without-none _ 0)
 
 mul-literal : tie.Need-mul-literal Inv-loop μ-loop
 mul-literal c = search needs
@@ -34,33 +39,40 @@ mul-literal c = search needs
 shared-slice-copy-out-literal : tie.Need-shared-slice-copy-out-literal Inv-loop μ-loop
 shared-slice-copy-out-literal c = c .loop-test .taken
 
-value-of-requires : tie.Need-value-of-requires Inv-loop μ-loop
-value-of-requires c κs =
-    let f : SFits w16 (getD (c .before .before .before .args .clause .now) (c .before .before .loop .k) (pos 0)) = search needs in
-    (c .before .before .before .pre .0, (c .before .before .before .pre .1 .0, rw (toZ-ofZ f) (c .before .before .before .pre .1 .1 _ (mem-at (c .before .before .before .args .clause .now) (pos 0) (c .before .before .loop .k) (c .before .loop-test .taken)))))
+-- the literal that is read
+module _ (c : tie.After-literal Inv-loop μ-loop) where
+  abbrev begin : tie.Start Inv-loop μ-loop
+  begin = c .before .before .before
 
--- the literal read, and its value
-module _ (c : tie.After-value-of Inv-loop μ-loop) where
+  abbrev values : List ℤ
+  values = begin .args .assignment .now
+
+  abbrev clause : List ℤ
+  clause = begin .args .clause .now
+
   abbrev literal : ℤ
-  literal = getD (c .before .before .before .before .args .clause .now) (c .before .before .before .loop .k) (pos 0)
+  literal = getD clause (c .before .before .loop .k) (pos 0)
 
-  its-value : c .value-of .result ≡ literalValue (c .before .before .before .before .args .assignment .now) literal
-  its-value =
-      let f : SFits w16 literal = search needs in
-      c .value-of .ensures ∙ ap (literalValue (c .before .before .before .before .args .assignment .now)) (toZ-ofZ f)
+  number : toZ w16 (ofZ w16 literal) ≡ literal
+  number = let f : SFits w16 literal = search needs in toZ-ofZ f
 
-  value-fits : SFits w8 (c .value-of .result)
-  value-fits = search needs
+  fits : LiteralFits (length values) literal
+  fits = begin .pre .1 .1 _ (mem-at clause (pos 0) (c .before .before .loop .k) (c .before .loop-test .taken))
+
+value-of-requires : tie.Need-value-of-requires Inv-loop μ-loop
+value-of-requires c κs = rw (number c) (begin c .pre .0, (begin c .pre .1 .0, fits c))
+
+-- its value
+module _ (c : tie.After-value-of Inv-loop μ-loop) where
+  value-is : c .value-of .result ≡ literalValue (values (c .before)) (literal (c .before))
+  value-is = c .value-of .ensures ∙ ap (literalValue (values (c .before))) (number (c .before))
 
 returns : tie.Need-returns Inv-loop μ-loop
-returns c = (
-  (λ _. (
-    literal (c .before),
-    mem-at (c .before .before .before .before .before .args .clause .now) (pos 0) (c .before .before .before .before .loop .k) (c .before .before .before .loop-test .taken),
-    literal-true (c .before .before .before .before .before .args .assignment .now) (literal (c .before)) .1 (sym (its-value (c .before)) ∙ bits-eq w8 _ 1 (value-fits (c .before)) (c .if1 .taken)),
-  )),
-  (λ _. tt),
-)
+returns c =
+    let v = c .before in
+    let d = v .before in
+    let is-true = bits-true (values d) (literal d) (v .value-of .result) (begin d .pre .0) (fits d) (value-is v) (c .if1 .taken) in
+    ((λ _. (literal d, mem-at (clause d) (pos 0) (d .before .before .loop .k) (d .before .loop-test .taken), is-true)), (λ _. tt))
 
 add-k : tie.Need-add-k Inv-loop μ-loop
 add-k c = omega arith
@@ -69,31 +81,18 @@ loop-less : tie.Need-loop-less Inv-loop μ-loop
 loop-less c = omega arith
 
 loop-again : tie.Need-loop-again Inv-loop μ-loop
-loop-again c = (
-  omega arith,
-  below-more _ _ (c .before .before .before .before .loop .inv .1) (λ t. c .if1 .left (ap (ofZ w8) (its-value (c .before) ∙ literal-true (c .before .before .before .before .before .args .assignment .now) (literal (c .before)) .0 t))),
-)
+loop-again c =
+    let v = c .before in
+    let d = v .before in
+    (omega arith, without-more _ (d .before .before .loop .inv .1) (λ t. c .if1 .left (true-bits (values d) (literal d) (v .value-of .result) (begin d .pre .0) (fits d) (value-is v) t)))
 
 returns-2 : tie.Need-returns-2 Inv-loop μ-loop
 returns-2 c = (
   (λ z. absurd z),
   (λ h.
       let q = at-mem (c .before .before .args .clause .now) (pos 0) (h .0) (h .1) in
-      c .before .loop .inv .1 (q .0) (omega (arith, q .1)) (subst (λ l. T (trueIn (c .before .before .args .assignment .now) l)) (q .2) (h .2))),
+      c .before .loop .inv .1 (q .0) (omega arith) (omega (arith, q .1)) (subst (λ l. T (trueIn (c .before .before .args .assignment .now) l)) (q .2) (h .2))),
 )
 
 pub has-true-spec : {M : Type 1} → statement M
-has-true-spec =
-    tie.close
-    (tie.spec
-    Inv-loop
-    μ-loop
-    loop-holds
-    mul-literal
-    shared-slice-copy-out-literal
-    value-of-requires
-    returns
-    add-k
-    loop-less
-    loop-again
-    returns-2)
+has-true-spec = tie.close (tie.spec Inv-loop μ-loop loop-holds mul-literal shared-slice-copy-out-literal value-of-requires returns add-k loop-less loop-again returns-2)

@@ -10,9 +10,10 @@ use mir.Val.{SFits, ofZ, toZ}
 use mir.Facts.{toZ-ofZ}
 use Rattle.plan.specs.Meaning.{add}
 use Rattle.plan.specs.Ranged.{LiteralFits}
-use Rattle.unit.specs.Clauses.{part, Says, SaysAt}
+use Rattle.plan.specs.ClauseTable.{part}
+use Rattle.plan.proofs.ClauseTable.{end-some}
+use Rattle.unit.specs.Clauses.{Says, SaysAt}
 use Rattle.unit.specs.declared.Said.the-variants.{Clash, Gives, Nothing}
-use Rattle.unit.proofs.Around.{end-some}
 use Rattle.unit.proofs.Following.{end-inside}
 use Rattle.unit.proofs.apply.Statement.{statement}
 use Rattle.unit.proofs.apply.Tie as tie

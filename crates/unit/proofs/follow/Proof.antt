@@ -76,7 +76,7 @@ apply-requires c κs =
     let t = c .before .before .before .before in
     let b = t .before .before .before .before in
     let s = c .before .before .start-of .ensures .before in
-    (ready-kept (b .pre .0) (t .loop .inv .kept .shape), (omega (arith, c .before .before .before .loop-test .taken), t .loop .inv .pending .room))
+    (ready-kept (b .pre .0) (t .loop .inv .looks .steps .shape), (omega (arith, c .before .before .before .loop-test .taken), t .loop .inv .looks .pending .room))
 
 -- after a clause
 module _ (c : tie.After-apply Inv-loop μ-loop) where
@@ -96,7 +96,7 @@ returns c =
     follow-clash (turn d .loop .inv) (b .pre .0 .table .ended) (inside d) (d .before .before .before .start-of .ensures) (d .apply .ensures) (c .if1 .taken)
 
 same-length : tie.Need-same-length Inv-loop μ-loop
-same-length c = returns c .shape .long
+same-length c = returns c .steps .shape .long
 
 next-place-requires : tie.Need-next-place-requires Inv-loop μ-loop
 next-place-requires c κs = let d = c .before .before in omega (arith, inside d, begin d .pre .1 .0 .short)
@@ -124,7 +124,7 @@ returns-2 : tie.Need-returns-2 Inv-loop μ-loop
 returns-2 c = follow-ends (c .before .loop .inv) (c .loop-test .left)
 
 same-length-2 : tie.Need-same-length-2 Inv-loop μ-loop
-same-length-2 c = c .before .loop .inv .kept .shape .long
+same-length-2 c = c .before .loop .inv .looks .steps .shape .long
 
 pub follow-spec : {M : Type 1} → statement M
 follow-spec =

@@ -21,7 +21,7 @@ follow-requires : tie.Need-follow-requires Inv-loop μ-loop
 follow-requires c κs =
     let t = c .before .before .before in
     let b = t .before in
-    (ready-kept (b .pre .0) (t .loop .inv .shape), (b .pre .1 .0, (c .before .before .loop-test .taken, t .loop .inv .goes refl)))
+    (ready-kept (b .pre .0) (t .loop .inv .steps .shape), (b .pre .1 .0, (c .before .before .loop-test .taken, t .loop .inv .goes refl)))
 
 -- after a literal
 module _ (c : tie.After-follow Inv-loop μ-loop) where
@@ -38,7 +38,7 @@ returns : tie.Need-returns Inv-loop μ-loop
 returns c = let d = c .before .before in propagated-then (turn d .loop .inv) (leads-clash (d .follow .ensures) (c .if1 .taken))
 
 same-length : tie.Need-same-length Inv-loop μ-loop
-same-length c = returns c .shape .long
+same-length c = returns c .steps .shape .long
 
 add-head : tie.Need-add-head Inv-loop μ-loop
 add-head c = let h = inside (c .before .before) in search needs
@@ -53,7 +53,7 @@ returns-2 : tie.Need-returns-2 Inv-loop μ-loop
 returns-2 c = leads-ends (c .before .loop .inv) refl (c .loop-test .left)
 
 same-length-2 : tie.Need-same-length-2 Inv-loop μ-loop
-same-length-2 c = c .before .loop .inv .shape .long
+same-length-2 c = c .before .loop .inv .steps .shape .long
 
 pub follow-all-spec : {M : Type 1} → statement M
 follow-all-spec =

@@ -14,7 +14,8 @@ use Rattle.plan.specs.Tables.{literalValue}
 use Rattle.plan.proofs.Signs.{bits-eq}
 use Rattle.unit.specs.Clauses.{Stop}
 use Rattle.plan.proofs.Literals.{bits-true, true-bits}
-use Rattle.unit.proofs.Scan.{not-last, at-zero, at-true, at-second, at-end}
+use Rattle.plan.proofs.ClauseTable.{not-last}
+use Rattle.unit.proofs.Scan.{at-zero, at-true, at-second, at-end}
 use Rattle.unit.proofs.look_at.Statement.{statement}
 use Rattle.unit.proofs.look_at.Tie as tie
 

@@ -4,7 +4,7 @@ use native.Mathlib.Omega.{arith}
 use borrow.Author.Needs.{needs}
 use lib.IntN.{ℤ}
 use lib.ListN.{length}
-use Rattle.unit.proofs.Around.{end-some}
+use Rattle.plan.proofs.ClauseTable.{end-some}
 use Rattle.unit.proofs.Following.{ready-kept, Passing, passing-start, pass-clash, pass-more, pass-ends}
 use Rattle.unit.proofs.pass.Statement.{statement}
 use Rattle.unit.proofs.pass.Tie as tie
@@ -21,7 +21,7 @@ loop-holds c = passing-start (c .pre .0) (c .pre .1)
 apply-requires : tie.Need-apply-requires Inv-loop μ-loop
 apply-requires c κs =
     let t = c .before .before .before in
-    (ready-kept (t .before .pre .0) (t .loop .inv .kept .shape), (c .before .before .loop-test .taken, t .loop .inv .pending .room))
+    (ready-kept (t .before .pre .0) (t .loop .inv .looks .steps .shape), (c .before .before .loop-test .taken, t .loop .inv .looks .pending .room))
 
 -- after a clause
 module _ (c : tie.After-apply Inv-loop μ-loop) where
@@ -41,10 +41,10 @@ returns : tie.Need-returns Inv-loop μ-loop
 returns c =
     let d = c .before .before in
     let e = end-some (table d) (turn d .loop .at) (begin d .pre .0 .table .ended) (inside d) in
-    pass-clash (turn d .loop .inv) (d .apply .ensures) (e .1) (c .if1 .taken)
+    pass-clash (turn d .loop .inv) (e .1) (d .apply .ensures) (c .if1 .taken)
 
 same-length : tie.Need-same-length Inv-loop μ-loop
-same-length c = returns c .shape .long
+same-length c = returns c .steps .shape .long
 
 end-of-requires : tie.Need-end-of-requires Inv-loop μ-loop
 end-of-requires c κs = let d = c .before .before in (begin d .pre .0 .table .ended, inside d)
@@ -56,13 +56,13 @@ loop-less : tie.Need-loop-less Inv-loop μ-loop
 loop-less c = omega (arith, c .end-of .ensures .after, c .end-of .ensures .inside)
 
 loop-again : tie.Need-loop-again Inv-loop μ-loop
-loop-again c = let d = c .before .before .before in pass-more (turn d .loop .inv) (d .apply .ensures) (c .end-of .ensures) (c .before .if1 .left)
+loop-again c = let d = c .before .before .before in pass-more (turn d .loop .inv) (c .end-of .ensures) (d .apply .ensures) (c .before .if1 .left)
 
 returns-2 : tie.Need-returns-2 Inv-loop μ-loop
 returns-2 c = pass-ends (c .before .loop .inv) (c .loop-test .left)
 
 same-length-2 : tie.Need-same-length-2 Inv-loop μ-loop
-same-length-2 c = c .before .loop .inv .kept .shape .long
+same-length-2 c = c .before .loop .inv .looks .steps .shape .long
 
 pub pass-spec : {M : Type 1} → statement M
 pass-spec =

@@ -25,7 +25,7 @@ returns : tie.Need-returns
 returns c = c .before .follow-all .ensures
 
 same-length : tie.Need-same-length
-same-length c = returns c .shape .long
+same-length c = returns c .steps .shape .long
 
 pass-requires : tie.Need-pass-requires
 pass-requires c κs = (c .before .before .before .pre .0, refl)
@@ -34,19 +34,19 @@ returns-2 : tie.Need-returns-2
 returns-2 c = leads-clash (c .before .before .pass .ensures) (c .if2 .taken)
 
 same-length-2 : tie.Need-same-length-2
-same-length-2 c = returns-2 c .shape .long
+same-length-2 c = returns-2 c .steps .shape .long
 
 follow-all-requires-2 : tie.Need-follow-all-requires-2
 follow-all-requires-2 c κs =
     let b = c .before .before .before .before .before .before .before .before in
     let p = c .before .before .before .before .pass .ensures in
-    (ready-kept (b .pre .0) (p .shape), (b .pre .1 .0, p .goes (c .before .before .if2 .left)))
+    (ready-kept (b .pre .0) (p .steps .shape), (b .pre .1 .0, p .goes (c .before .before .if2 .left)))
 
 returns-3 : tie.Need-returns-3
 returns-3 c = propagated-then (c .before .before .before .before .before .before .pass .ensures) (c .before .follow-all2 .ensures)
 
 same-length-3 : tie.Need-same-length-3
-same-length-3 c = returns-3 c .shape .long
+same-length-3 c = returns-3 c .steps .shape .long
 
 pub propagate-spec : {M : Type 1} → statement M
 propagate-spec =

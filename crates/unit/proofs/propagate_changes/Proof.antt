@@ -16,7 +16,7 @@ returns : tie.Need-returns
 returns c = c .before .follow-all .ensures
 
 same-length : tie.Need-same-length
-same-length c = returns c .shape .long
+same-length c = returns c .steps .shape .long
 
 pub propagate-changes-spec : {M : Type 1} → statement M
 propagate-changes-spec = tie.close (tie.spec queue-changes-requires follow-all-requires same-length returns)

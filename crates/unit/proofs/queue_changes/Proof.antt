@@ -1,3 +1,4 @@
+-- The literals that are new in an assignment, one place after the other, put behind one another into the queue.
 use mathlib.Core.Path.{_≡_, sym, _∙_, ap}
 use mathlib.Core.Logic.{⊎-elim, _≢_}
 use Prim.Native.Nat.{_-_, _+_, _<_}
@@ -8,6 +9,7 @@ use lib.ListN.{length, getD, set}
 use mir.Syntax.{w8, w16}
 use mir.Val.{SFits, ofZ}
 use mir.Facts.{toZ-ofZ}
+use Rattle.plan.specs.Ranged.{maxVariables}
 use Rattle.plan.proofs.Signs.{bits-same}
 use Rattle.unit.specs.Queue.{literalAt}
 use Rattle.unit.proofs.Changes.{Queueing, queueing-start, queueing-same, queueing-put, queueing-ends}
@@ -43,8 +45,11 @@ module _ (c : tie.After-if12 Inv-loop μ-loop) where
   abbrev is : ℤ
   is = getD (begin .args .values .now) (turn .loop .i) (pos 0)
 
-  within : turn .loop .i < 512
+  within : turn .loop .i < maxVariables
   within = omega (arith, c .before .before .loop-test .taken, begin .pre .1 .0)
+
+  short : turn .loop .end < maxVariables
+  short = omega (arith, within, turn .loop .inv .short)
 
   was-fits : SFits w8 was
   was-fits = search needs
@@ -58,17 +63,20 @@ module _ (c : tie.After-if12 Inv-loop μ-loop) where
   keeps : ofZ w8 is ≡ ofZ w8 was → Queueing (begin .args .before .now) (begin .args .values .now) (turn .loop .queue) (turn .loop .end) (turn .loop .i + 1)
   keeps e = queueing-same _ _ _ _ _ (turn .loop .inv) (c .before .before .loop-test .taken) (sym (bits-same w8 _ _ is-fits was-fits e))
 
-literal-at-requires : tie.Need-literal-at-requires Inv-loop μ-loop
-literal-at-requires c κs = within (c .before)
+add-literal-of : tie.Need-add-literal-of Inv-loop μ-loop
+add-literal-of c = omega (arith, within (c .before))
 
-mul-t14 : tie.Need-mul-t14 Inv-loop μ-loop
-mul-t14 c = let h = within (c .before .before) in let g = turn (c .before .before) .loop .inv .short in search needs
+literal-of-requires : tie.Need-literal-of-requires Inv-loop μ-loop
+literal-of-requires c κs = omega (arith, within (c .before))
+
+mul-t16 : tie.Need-mul-t16 Inv-loop μ-loop
+mul-t16 c = omega (arith, short (c .before .before))
 
 element-set-from-queue : tie.Need-element-set-from-queue Inv-loop μ-loop
-element-set-from-queue c = omega (arith, within (c .before .before), turn (c .before .before) .loop .inv .short)
+element-set-from-queue c = short (c .before .before)
 
 add-end : tie.Need-add-end Inv-loop μ-loop
-add-end c = let h = within (c .before .before) in let g = turn (c .before .before) .loop .inv .short in search needs
+add-end c = omega (arith, short (c .before .before))
 
 add-i : tie.Need-add-i Inv-loop μ-loop
 add-i c = let h = within (c .before) in search needs
@@ -96,8 +104,9 @@ queue-changes-spec =
     loop-holds
     shared-slice-copy-out-value
     element-copy-out-if1
-    literal-at-requires
-    mul-t14
+    add-literal-of
+    literal-of-requires
+    mul-t16
     element-set-from-queue
     add-end
     add-i

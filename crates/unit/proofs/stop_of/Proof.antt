@@ -1,70 +1,77 @@
-use mathlib.Core.Path.{_≡_, subst}
-use mathlib.Core.Bool.{Bool, true, false}
+-- The first stop from a place on: none stands between that place and the one reached, and the look stops at the last number, a 0.
+use mathlib.Core.Path.{_≡_, sym, subst}
+use mathlib.Core.Bool.{false}
 use mathlib.Core.List.{List}
-use Prim.Native.Nat.{ℕ, _-_, _+_, _<_}
+use mathlib.Core.Logic.{_↔_}
+use Prim.Native.Nat.{ℕ, _-_, _+_, _≤_, _<_}
 use native.Mathlib.Omega.{arith}
 use borrow.Author.Needs.{needs}
+use lib.Dec.{T}
 use lib.IntN.{ℤ, pos}
 use lib.ListN.{length, getD}
 use mir.Syntax.{w16}
 use mir.Val.{SFits, toZ, ofZ}
 use mir.Facts.{toZ-ofZ}
-use Rattle.unit.specs.Clauses.{Stops, Stop}
-use Rattle.unit.proofs.Scan.{Run, run-start, run-next, not-last}
+use Rattle.plan.specs.Places.{Without}
+use Rattle.plan.proofs.Places.{without-none, without-more}
+use Rattle.plan.proofs.ClauseTable.{not-last}
+use Rattle.unit.specs.Clauses.{Stops}
+use Rattle.unit.proofs.Scan.{goes-on}
 use Rattle.unit.proofs.stop_of.Statement.{statement}
 use Rattle.unit.proofs.stop_of.Tie as tie
 
 abbrev Inv-loop : tie.InvT-loop
-Inv-loop clauses from passed values at₀ at = Run clauses (λ l. Stops values l (toZ w16 passed) false) from at
+Inv-loop clauses from passed values at₀ at = (from ≤ at) × (at < length clauses) × Without (λ k. Stops values (toZ w16 passed) (getD clauses k (pos 0))) from at
 
 abbrev μ-loop : tie.MeasureT-loop
 μ-loop clauses from passed values at₀ at = length clauses - at
 
 loop-holds : tie.Need-loop-holds Inv-loop μ-loop
-loop-holds c = run-start _ _ _ (c .pre .1)
+loop-holds c = (omega arith, c .pre .1, without-none _ _)
 
 mul-literal : tie.Need-mul-literal Inv-loop μ-loop
-mul-literal c = let h = c .loop .inv .inside in search needs
+mul-literal c = search needs
 
 shared-slice-copy-out-literal : tie.Need-shared-slice-copy-out-literal Inv-loop μ-loop
-shared-slice-copy-out-literal c = c .loop .inv .inside
+shared-slice-copy-out-literal c = c .loop .inv .1
 
 -- the number at the place that is looked at
 module _ (c : tie.After-literal Inv-loop μ-loop) where
   abbrev begin : tie.Start Inv-loop μ-loop
   begin = c .before .before
 
-  abbrev table : List ℤ
-  table = begin .args .clauses .now
+  abbrev number : ℤ
+  number = getD (begin .args .clauses .now) (c .before .loop .at) (pos 0)
 
-  abbrev at : ℕ
-  at = c .before .loop .at
+  abbrev passed : ℤ
+  passed = toZ w16 (ofZ w16 (begin .args .passed))
 
-  number : toZ w16 (ofZ w16 (getD table at (pos 0))) ≡ getD table at (pos 0)
-  number = let f : SFits w16 (getD table at (pos 0)) = search needs in toZ-ofZ f
+  read-back : toZ w16 (ofZ w16 number) ≡ number
+  read-back = let f : SFits w16 number = search needs in toZ-ofZ f
 
 stops-requires : tie.Need-stops-requires Inv-loop μ-loop
-stops-requires c κs =
-    rw (number c) (begin c .pre .0 .shape, (begin c .pre .0 .small, λ n. begin c .pre .0 .table .fits (at c) (c .before .loop .inv .inside) n))
+stops-requires c κs = let r = begin c .pre .0 in rw (read-back c) (r .shape, (r .small, r .table .fits (c .before .loop .at) (c .before .loop .inv .1)))
 
 -- what the test says of it
 module _ (c : tie.After-stops Inv-loop μ-loop) where
   abbrev seen : tie.After-literal Inv-loop μ-loop
   seen = c .before
 
-  says : (b : Bool) → c .stops .result ≡ b → Stops (begin seen .args .values .now) (getD (table seen) (at seen) (pos 0)) (toZ w16 (ofZ w16 (begin seen .args .passed))) b
-  says b e = subst (λ l. Stops (begin seen .args .values .now) l (toZ w16 (ofZ w16 (begin seen .args .passed))) b) (number seen)
-      (subst (λ r. Stops (begin seen .args .values .now) (toZ w16 (ofZ w16 (getD (table seen) (at seen) (pos 0)))) (toZ w16 (ofZ w16 (begin seen .args .passed))) r) e (c .stops .ensures))
+  says : T (c .stops .result) ↔ Stops (begin seen .args .values .now) (passed seen) (number seen)
+  says = rw (read-back seen) at (c .stops .ensures)
 
-  further : c .stops .result ≡ false → at seen + 1 < length (table seen)
-  further e = not-last (table seen) (at seen) (begin seen .pre .0 .table .ended) (seen .before .loop .inv .inside) (says false e .0)
+  not-here : c .stops .result ≡ false → Stops (begin seen .args .values .now) (passed seen) (number seen) → ⊥
+  not-here e s = subst (λ b. T b) e (says .1 s)
+
+  further : c .stops .result ≡ false → seen .before .loop .at + 1 < length (begin seen .args .clauses .now)
+  further e = not-last (begin seen .args .clauses .now) (seen .before .loop .at) (begin seen .pre .0 .table .ended) (seen .before .loop .inv .1)
+      (goes-on (begin seen .args .values .now) (passed seen) (number seen) (not-here e) .0)
 
 returns : tie.Need-returns Inv-loop μ-loop
 returns c =
     let d = c .before in
-    let r = seen d .before .loop .inv in
-    let whole : Stop (table (seen d)) (begin (seen d) .args .values .now) (begin (seen d) .args .from) (toZ w16 (ofZ w16 (begin (seen d) .args .passed))) (at (seen d)) = record { after = r .after; inside = r .inside; before = r .before; here = says d true (c .if1 .taken) } in
-    rw (toZ-ofZ (begin (seen d) .fits .passed)) at whole
+    let i = seen d .before .loop .inv in
+    rw (sym (toZ-ofZ (begin (seen d) .fits .passed))) (record { after = i .0; inside = i .1; before = i .2; here = says d .0 (subst (λ b. T b) (sym (c .if1 .taken)) tt) })
 
 add-at : tie.Need-add-at Inv-loop μ-loop
 add-at c = let h = further (c .before) (c .if1 .left) in search needs
@@ -73,19 +80,7 @@ loop-less : tie.Need-loop-less Inv-loop μ-loop
 loop-less c = omega (arith, further (c .before) (c .if1 .left))
 
 loop-again : tie.Need-loop-again Inv-loop μ-loop
-loop-again c = let d = c .before in run-next (seen d .before .loop .inv) (says d false (c .if1 .left)) (further d (c .if1 .left))
+loop-again c = let d = c .before in (omega arith, further d (c .if1 .left), without-more _ (seen d .before .loop .inv .2) (not-here d (c .if1 .left)))
 
 pub stop-of-spec : {M : Type 1} → statement M
-stop-of-spec =
-    tie.close
-    (tie.spec
-    Inv-loop
-    μ-loop
-    loop-holds
-    mul-literal
-    shared-slice-copy-out-literal
-    stops-requires
-    returns
-    add-at
-    loop-less
-    loop-again)
+stop-of-spec = tie.close (tie.spec Inv-loop μ-loop loop-holds mul-literal shared-slice-copy-out-literal stops-requires returns add-at loop-less loop-again)
