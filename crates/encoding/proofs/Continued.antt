@@ -116,8 +116,7 @@ module _ (φ : PlanFile) (r : Ranged φ) where
     unfolding isTrue?
     right-iff A m =
         let t = true-iff n (φ .edges) f A (λ e k. r .edge e k .to-in) (r .atom A m .from-in) in
-        let x = front (φ .variables) a b (fa .long) (on (A .variable)) (literal A m) in
-        (
+        let x = front (φ .variables) a b (fa .long) (on (A .variable)) (literal A m) in (
           λ e. let z = sym x ∙ e in (λ h. t .0 (subst T z h), λ h. subst T (sym z) (t .1 h)),
           λ i. x ∙ T-same (trueIn a (on (A .variable))) (isTrue? n (φ .edges) f A) (λ h. t .1 (i .0 h)) (λ h. i .1 (t .0 h)),
         )

@@ -6,12 +6,11 @@ use mathlib.Core.List.{List, List·Memᴰ}
 use Prim.Native.Nat.{ℕ, _≤_, _<_}
 use lib.IntN.{ℤ}
 use lib.Dec.{T}
-use Rattle.plan.specs.Meaning.{Edge, Atom, IsTrue, on, trueIn, under}
+use Rattle.plan.specs.Meaning.{Edge, Atom, costOf, IsTrue, on, trueIn, under}
 use Rattle.plan.specs.Ranged.{LiteralFits}
 use Rattle.plan.specs.Judging.{FirstWithout, plan, no-true, wrong}
 use Rattle.plan.specs.Judging as judging
-use Rattle.walk.specs.Hopping.{HopTable}
-use Rattle.walk.specs.declared.Hops.{Hops}
+use Rattle.walk.specs.Hopping.{DistanceTable}
 use Rattle.judge.specs.declared.Verdict.{Verdict}
 use Rattle.judge.specs.declared.Verdict.the-variants.{Plan, Clause, Atom as WrongAtom}
 use Rattle.judge.specs.declared.First.{First}
@@ -32,9 +31,9 @@ FirstIs P xs (At n) = FirstWithout P xs n
 abbrev pub RightIn : List Edge → List ℤ → Atom → Type 0
 RightIn es a A = T (trueIn a (on (A .variable))) ↔ IsTrue es (under (trueIn a)) A
 
--- The same, told from the hops from the atom's source.
-abbrev pub RightBy : List ℤ → Atom → Hops → Bool → Type 0
-RightBy a A h r = (es : List Edge) → HopTable es (under (trueIn a)) (A .from) h → T r ↔ RightIn es a A
+-- The same, told from the distances from the atom's source.
+abbrev pub RightBy : List ℤ → Atom → List ℕ → Bool → Type 0
+RightBy a A d r = (es : List Edge) → DistanceTable (costOf (A .kind)) es (under (trueIn a)) (A .from) d → T r ↔ RightIn es a A
 
 abbrev pub LiteralsFit : ℕ → List ℤ → Type 0
 LiteralsFit variables C = (l : ℤ) → List·Memᴰ l C → LiteralFits variables l

@@ -1,6 +1,7 @@
 use plan::Atom;
 use plan::Plan;
-use walk::Hops;
+use plan::Side;
+use walk::Distances;
 ghost use mathlib.Core.Path.{_≡_};
 ghost use mathlib.Core.Logic.{_↔_};
 ghost use Prim.Native.Nat.{_*_, _<_, _≤_};
@@ -66,15 +67,14 @@ fn first_untrue(assignment: &[i8], clauses: &[i16]) -> First
     First::Nowhere
 }
 
-// Whether an atom's variable equals its truth, by the hops from its source.
-fn is_right(atom: Atom, hops: Hops, assignment: &[i8]) -> bool
+// Whether an atom's variable equals its truth, by the distances from its source.
+fn is_right(atom: Atom, distances: &Distances, assignment: &[i8]) -> bool
     requires { ⌜ atom .to < 64 ⌝ }
     requires { ⌜ 1 ≤ atom .variable ⌝ }
     requires { ⌜ atom .variable ≤ length (now assignment) ⌝ }
-    ensures { λ r. ⌜ RightBy (now (assignment .entry)) (atomOf atom) hops r ⌝ }
+    ensures { λ r. ⌜ RightBy (now (assignment .entry)) (atomOf atom) (now (distances .entry)) r ⌝ }
 {
-    let counts = hops.counts;
-    let truth = walk::is_true(atom, hops.reached, &counts);
+    let truth = walk::is_true(atom, distances);
     let at = plan::wide(atom.variable) - 1;
     let value = assignment[at];
     if value == 1 {
@@ -83,14 +83,14 @@ fn is_right(atom: Atom, hops: Hops, assignment: &[i8]) -> bool
     !truth
 }
 
-// The hops from the node `next`, where those from `source` are known.
-fn hops_from(neighbours: &[u64; 64], hops: Hops, source: usize, next: usize) -> Hops
+// The distances from the node `next`, where those from `source` are known.
+fn distances_from(neighbours: &[u64; 64], known: Distances, source: usize, next: usize) -> Distances
     requires { ⌜ next < 64 ⌝ }
-    requires { ⌜ Walked (now neighbours) source hops ⌝ }
+    requires { ⌜ Walked (now neighbours) source known ⌝ }
     ensures { λ r. ⌜ Walked (now (neighbours .entry)) next r ⌝ }
 {
     if next == source {
-        return hops;
+        return known;
     }
     walk::walk(neighbours, next)
 }
@@ -103,17 +103,17 @@ fn first_wrong(edges: &[u16], atoms: &[u16], count: usize, assignment: &[i8]) ->
     requires { ⌜ length (now atoms) ≡ count * 5 ⌝ }
     ensures { λ r. ⌜ FirstIs (RightIn (edgesOf (now (edges .entry))) (now (assignment .entry))) (atomsOf (now (atoms .entry))) r ⌝ }
 {
-    let neighbours = walk::neighbours(edges, assignment, false);
+    let neighbours = walk::neighbours(edges, assignment, Side::Under);
     let mut source = 0;
-    let mut hops = walk::walk(&neighbours, source);
+    let mut distances = walk::walk(&neighbours, source);
     let mut number = 0;
     while number < count {
         let atom = plan::atom_at(atoms, number);
         let from = plan::wide(atom.from);
-        hops = hops_from(&neighbours, hops, source, from);
+        distances = distances_from(&neighbours, distances, source, from);
         source = from;
         number += 1;
-        if !is_right(atom, hops, assignment) {
+        if !is_right(atom, &distances, assignment) {
             return First::At(number);
         }
     }

@@ -13,10 +13,9 @@ use lib.Seq.{drop-cons, drop-length, getD-set-same, getD-set-other}
 use lib.IntN.{ℤ, pos, negsuc, negℤ, negℤ-negℤ}
 use lib.Signed.{ltZ}
 use lib.Dec.{T}
-use Rattle.plan.specs.Meaning.{on, off, isOn, isOff, value, trueIn}
+use Rattle.plan.specs.Meaning.{on, off, isOn, isOff, value, trueIn, literalOf}
 use Rattle.plan.specs.Ranged.{maxVariables, LiteralFits}
 use Rattle.plan.specs.Search.{opens}
-use Rattle.plan.specs.Tables.{literalOf}
 use Rattle.plan.proofs.Add.{IsValue, on-one, off-one}
 use Rattle.plan.proofs.Signs.{natAbs-neg}
 use Rattle.plan.proofs.Walks.{le-or-lt}

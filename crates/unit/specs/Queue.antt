@@ -9,10 +9,10 @@ use lib.ListN.{length, getD, set}
 use lib.IntN.{ℤ, pos, negℤ}
 use lib.Signed.{ltZ}
 use lib.Dec.{T}
-use Rattle.plan.specs.Meaning.{_⊆_, trueIn, add}
+use Rattle.plan.specs.Meaning.{_⊆_, trueIn, add, literalOf}
 use Rattle.plan.specs.Ranged.{maxVariables, LiteralFits}
 use Rattle.plan.specs.Search.{Assigned, opens}
-use Rattle.plan.specs.Tables.{clausesOf, literalOf}
+use Rattle.plan.specs.Tables.{clausesOf}
 use Rattle.unit.specs.Clauses.{SaysAt, Quiet, AllQuiet, ByClauses, ClauseClash}
 use Rattle.unit.specs.declared.Said.{Said}
 use Rattle.unit.specs.declared.Said.the-variants.{Clash, Gives, Nothing}

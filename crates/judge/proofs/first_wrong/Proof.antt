@@ -6,7 +6,7 @@ use borrow.Author.Needs.{needs}
 use borrow.Author.Tests.{not-true, not-false}
 use lib.Dec.{T}
 use lib.Seq.{drop-cons}
-use Rattle.plan.specs.Meaning.{Atom, trueIn, under}
+use Rattle.plan.specs.Meaning.{Atom, oneHop, trueIn, under}
 use Rattle.plan.proofs.Tables.{atoms-length}
 use Rattle.plan.proofs.Walks.{mem-at}
 use Rattle.walk.proofs.Truths.{so, not-so}
@@ -14,17 +14,17 @@ use Prim.Native.Nat.{suc, _-_, _<_, _≤_}
 use native.Mathlib.Omega.{arith}
 use lib.ListN.{length, drop, drop-of-length-le}
 use Rattle.plan.specs.Tables.{edgesOf, atomsOf, atomOf}
-use Rattle.walk.specs.Hopping.{HopTable, Walked}
+use Rattle.walk.specs.Hopping.{DistanceTable, Walked}
 use Rattle.judge.specs.Verdicts.{RightIn}
 use Rattle.judge.proofs.Passing.{Passed, start, next, passed-none, passed-here}
 use Rattle.judge.proofs.first_wrong.Statement.{statement}
 use Rattle.judge.proofs.first_wrong.Tie as tie
 
 abbrev Inv-loop : tie.InvT-loop
-Inv-loop edges atoms count assignment neighbours source₀ hops₀ number₀ source hops number = (number ≤ count) × Walked neighbours source hops × Passed (RightIn (edgesOf edges) assignment) (atomsOf atoms) number (drop number (atomsOf atoms))
+Inv-loop edges atoms count assignment neighbours source₀ distances₀ number₀ source distances number = (number ≤ count) × Walked neighbours source distances × Passed (RightIn (edgesOf edges) assignment) (atomsOf atoms) number (drop number (atomsOf atoms))
 
 abbrev μ-loop : tie.MeasureT-loop
-μ-loop edges atoms count assignment neighbours source₀ hops₀ number₀ source hops number = count - number
+μ-loop edges atoms count assignment neighbours source₀ distances₀ number₀ source distances number = count - number
 
 neighbours-requires : tie.Need-neighbours-requires Inv-loop μ-loop
 neighbours-requires c κs = (c .before .before .pre .0, c .before .before .pre .1 .0)
@@ -57,14 +57,17 @@ module _ (c : tie.After-atom-at Inv-loop μ-loop) where
 
 -- whether its variable equals its truth
 module _ (c : tie.After-is-right Inv-loop μ-loop) where
+  abbrev from : tie.After-distances-from Inv-loop μ-loop
+  from = c .before .before
+
   abbrev read : tie.After-atom-at Inv-loop μ-loop
-  read = c .before .before .before .before
+  read = from .before .before .before
 
   right : T (c .is-right .result) ↔ RightIn (edgesOf (begin read .args .edges .now)) (begin read .args .assignment .now) (atomOf (read .atom-at .result))
   right =
       c .is-right .ensures (edgesOf (begin read .args .edges .now))
-      (subst (λ s. HopTable (edgesOf (begin read .args .edges .now)) (under (trueIn (begin read .args .assignment .now))) s (c .before .hops-from .result)) (c .before .before .before .wide .ensures)
-      (c .before .hops-from .ensures (edgesOf (begin read .args .edges .now)) (under (trueIn (begin read .args .assignment .now))) (begin read .pre .0) (read .before .before .before .before .before .neighbours .ensures)))
+      (subst (λ s. DistanceTable oneHop (edgesOf (begin read .args .edges .now)) (under (trueIn (begin read .args .assignment .now))) s (from .distances-from .result)) (from .before .before .wide .ensures)
+      (from .distances-from .ensures (edgesOf (begin read .args .edges .now)) (under (trueIn (begin read .args .assignment .now))) (begin read .pre .0) (read .before .before .before .before .before .neighbours .ensures)))
 
   passed : Passed (RightIn (edgesOf (begin read .args .edges .now)) (begin read .args .assignment .now)) (all read) (read .before .before .loop .number)
       (atomOf (read .atom-at .result) ∷ drop (suc (read .before .before .loop .number)) (all read))
@@ -72,14 +75,14 @@ module _ (c : tie.After-is-right Inv-loop μ-loop) where
       (drop-cons (all read) (read .before .before .loop .number) _ (inside read) ∙ ap (λ x. x ∷ drop (suc (read .before .before .loop .number)) (all read)) (sym (read .atom-at .ensures)))
       (read .before .before .loop .inv .2)
 
-hops-from-requires : tie.Need-hops-from-requires Inv-loop μ-loop
-hops-from-requires c κs = (omega (arith, c .before .wide .ensures, fits (c .before .before) .0), c .before .before .before .before .loop .inv .1)
+distances-from-requires : tie.Need-distances-from-requires Inv-loop μ-loop
+distances-from-requires c κs = (omega (arith, c .before .wide .ensures, fits (c .before .before) .0), c .before .before .before .before .loop .inv .1)
 
 add-number : tie.Need-add-number Inv-loop μ-loop
 add-number c = omega arith
 
 is-right-requires : tie.Need-is-right-requires Inv-loop μ-loop
-is-right-requires c κs = (fits (c .before .before .before) .1, (fits (c .before .before .before) .2, fits (c .before .before .before) .3))
+is-right-requires c κs = let f = fits (c .before .before .before .before) in (f .1, (f .2, f .3))
 
 returns : tie.Need-returns Inv-loop μ-loop
 returns c = passed-here (passed (c .before)) (λ r. not-so {r = c .before .is-right .result} refl (not-true _ (c .if1 .taken)) (right (c .before) .1 r))
@@ -90,8 +93,8 @@ loop-less c = omega arith
 loop-again : tie.Need-loop-again Inv-loop μ-loop
 loop-again c = (
   omega arith,
-  c .before .before .hops-from .ensures,
-  rw (add-one (c .before .before .before .before .before .before .before .loop .number)) (next (passed (c .before)) (right (c .before) .0 (so {r = c .before .is-right .result} refl (not-false _ (c .if1 .left))))),
+  from (c .before) .distances-from .ensures,
+  rw (add-one (read (c .before) .before .before .loop .number)) (next (passed (c .before)) (right (c .before) .0 (so {r = c .before .is-right .result} refl (not-false _ (c .if1 .left))))),
 )
 
 returns-2 : tie.Need-returns-2 Inv-loop μ-loop
@@ -110,7 +113,7 @@ first-wrong-spec =
     loop-holds
     atom-at-requires
     wide-requires
-    hops-from-requires
+    distances-from-requires
     add-number
     is-right-requires
     returns
