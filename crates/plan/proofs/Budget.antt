@@ -6,12 +6,12 @@ use mathlib.Core.List.{List}
 use Prim.Native.Nat.{ℕ, zero, suc, _+_, _-_, _≤_, _<_}
 use native.Mathlib.Omega.{arith}
 use lib.IntN.{ℤ}
-use Rattle.plan.specs.Meaning.{PlanFile, on, off, add, trueIn, Full}
+use Rattle.plan.specs.Meaning.{PlanFile, add, trueIn, Full}
 use Rattle.plan.specs.Ranged.{Ranged}
 use Rattle.plan.specs.Closing.{Clashes}
-use Rattle.plan.specs.Search.{Assigned, Closes, Lowest, Outcome, nothing, found, Tree, clashed, full, first-found, first-nothing, Answer, decided, undecided, Searched, within, beyond}
+use Rattle.plan.specs.Search.{Assigned, Closes, Lowest, triedFirst, triedThen, Outcome, nothing, found, Tree, clashed, full, first-found, first-nothing, Answer, decided, undecided, Searched, within, beyond}
 use Rattle.plan.proofs.Add.{ltb?}
-use Rattle.plan.proofs.Search.{one-search, off-shape, on-shape}
+use Rattle.plan.proofs.Search.{one-search, first-shape, then-shape}
 use Rattle.plan.proofs.Compute.{search}
 use Rattle.plan.proofs.Exists.{searching-is}
 
@@ -38,24 +38,24 @@ module _ (φ : PlanFile) where
   at-plan a c n k f = within (full k f) (omega arith)
 
 module _ (φ : PlanFile) (ok : Ranged φ) (a c : List ℤ) (i : ℕ) (k : Closes φ a c) (l : Lowest c i) where
-  -- whatever the off side is, the whole has a tree, with a larger count
-  grown : (o : Outcome) {b : ℕ} → Tree φ (add c (off (suc i))) o b → (r : Outcome) × (m : ℕ) × Tree φ a r m × (b < m)
-  grown nothing t = let u = searching-is φ ok (add c (on (suc i))) (on-shape φ c i (k .shape) l) in (_, _, first-nothing k l t u, omega arith)
+  -- whatever the first side is, the whole has a tree, with a larger count
+  grown : (o : Outcome) {b : ℕ} → Tree φ (add c (triedFirst φ (suc i))) o b → (r : Outcome) × (m : ℕ) × Tree φ a r m × (b < m)
+  grown nothing t = let u = searching-is φ ok (add c (triedThen φ (suc i))) (then-shape φ c i (k .shape) l) in (_, _, first-nothing k l t u, omega arith)
   grown (found p) t = (_, _, first-found k l t, omega arith)
 
   pub no-budget : Searched φ a zero undecided zero
-  no-budget = let q = grown _ (searching-is φ ok (add c (off (suc i))) (off-shape φ c i (k .shape) l)) in beyond (q .2) (omega (arith, q .3))
+  no-budget = let q = grown _ (searching-is φ ok (add c (triedFirst φ (suc i))) (first-shape φ c i (k .shape) l)) in beyond (q .2) (omega (arith, q .3))
 
-  pub off-finds : {n b : ℕ} {p : List ℤ} → Searched φ (add c (off (suc i))) n (decided (found p)) b → Searched φ a (suc n) (decided (found p)) (suc b)
-  off-finds (within t h) = within (first-found k l t) (omega arith)
+  pub first-finds : {n b : ℕ} {p : List ℤ} → Searched φ (add c (triedFirst φ (suc i))) n (decided (found p)) b → Searched φ a (suc n) (decided (found p)) (suc b)
+  first-finds (within t h) = within (first-found k l t) (omega arith)
 
-  pub off-ends : {n b : ℕ} → Searched φ (add c (off (suc i))) n undecided b → Searched φ a (suc n) undecided (suc n)
-  off-ends (beyond {o = o} t h) = let q = grown o t in beyond (q .2) (omega (arith, q .3))
+  pub first-ends : {n b : ℕ} → Searched φ (add c (triedFirst φ (suc i))) n undecided b → Searched φ a (suc n) undecided (suc n)
+  first-ends (beyond {o = o} t h) = let q = grown o t in beyond (q .2) (omega (arith, q .3))
 
-  pub on-decides : {n b b′ : ℕ} {o : Outcome} → Searched φ (add c (off (suc i))) n (decided nothing) b → Searched φ (add c (on (suc i))) (n - b) (decided o) b′
+  pub then-decides : {n b b′ : ℕ} {o : Outcome} → Searched φ (add c (triedFirst φ (suc i))) n (decided nothing) b → Searched φ (add c (triedThen φ (suc i))) (n - b) (decided o) b′
       → Searched φ a (suc n) (decided o) (suc (b + b′))
-  on-decides (within t h) (within u g) = within (first-nothing k l t u) (omega arith)
+  then-decides (within t h) (within u g) = within (first-nothing k l t u) (omega arith)
 
-  pub on-ends : {n b b′ : ℕ} → Searched φ (add c (off (suc i))) n (decided nothing) b → Searched φ (add c (on (suc i))) (n - b) undecided b′
+  pub then-ends : {n b b′ : ℕ} → Searched φ (add c (triedFirst φ (suc i))) n (decided nothing) b → Searched φ (add c (triedThen φ (suc i))) (n - b) undecided b′
       → Searched φ a (suc n) undecided (suc n)
-  on-ends (within t h) (beyond u g) = beyond (first-nothing k l t u) (omega arith)
+  then-ends (within t h) (beyond u g) = beyond (first-nothing k l t u) (omega arith)

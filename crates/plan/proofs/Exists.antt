@@ -17,7 +17,7 @@ use Rattle.plan.specs.Search.{Assigned, opens, Closes, CloseIs, Lowest, 
 use Rattle.plan.proofs.Bools.{anyOf, each, those, or-cases, or-left, or-right, any-some, some-any, all-each, each-all}
 use Rattle.plan.proofs.Closing.{settles?, settles-iff, gives-mono, clash-mono, never-both}
 use Rattle.plan.proofs.Add.{IsValue, add-below, add-above, add-shape, add-opens, opens-sub}
-use Rattle.plan.proofs.Search.{low-n, not-on, not-off, off-shape, on-shape}
+use Rattle.plan.proofs.Search.{first-shape, then-shape, tried-opens}
 use Rattle.plan.proofs.Compute.{eqℤ, byClause, byVerdict, byAtom, gives, firstNew, allFalse, meet, closeStep, close, Counted, later, firstOpen, afterOff, atOpen, afterClose, search}
 
 -- lists
@@ -290,11 +290,9 @@ module _ (φ : PlanFile) (ok : Ranged φ) where
     atOpen-tree c k r h (no-open n) = full k (shut (φ .variables) c (k .shape) n)
     atOpen-tree c k r h (low i l) =
         afterOff-tree c k i l r
-        (h (on (suc i)) (on-shape φ c i (k .shape) l)
-        (omega (arith, add-opens (φ .variables) c (on (suc i)) (k .shape) (omega arith) (low-n (φ .variables) c i (k .shape) l) (not-on (φ .variables) c i (k .shape) l) (not-off (φ .variables) c i (k .shape) l))))
+        (h (on (suc i)) (then-shape φ c i (k .shape) l) (omega (arith, tried-opens (φ .variables) c i (k .shape) l (on (suc i)) refl)))
         (r (off (suc i)) .outcome) (r (off (suc i)) .count)
-        (h (off (suc i)) (off-shape φ c i (k .shape) l)
-        (omega (arith, add-opens (φ .variables) c (off (suc i)) (k .shape) (omega arith) (low-n (φ .variables) c i (k .shape) l) (not-off (φ .variables) c i (k .shape) l) (not-on (φ .variables) c i (k .shape) l))))
+        (h (off (suc i)) (first-shape φ c i (k .shape) l) (omega (arith, tried-opens (φ .variables) c i (k .shape) l (off (suc i)) refl)))
 
     afterClose-tree : (r : List ℤ → ℤ → Counted)
         → ((c : List ℤ) (l : ℤ) → Assigned (φ .variables) (add c l) → opens (add c l) < opens a → Tree φ (add c l) (r c l .outcome) (r c l .count))

@@ -39,7 +39,7 @@ module _ (P : ℕ → Type 0) where
     | no d ↦ w k (omega arith) b p
   ]
 
-  without-join : {from at end : ℕ} → Without P from at → Without P at end → Without P from end
+  pub without-join : {from at end : ℕ} → Without P from at → Without P at end → Without P from end
   without-join {from} {at} v w k a b p = elim (decLt k at) [
     | yes l ↦ v k a l p
     | no o ↦ w k (omega arith) b p

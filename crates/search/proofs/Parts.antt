@@ -7,11 +7,11 @@ use mathlib.Core.List.{List}
 use Prim.Native.Nat.{ℕ, suc, _+_, _-_, _≤_, _<_}
 use native.Mathlib.Omega.{arith}
 use lib.IntN.{ℤ}
-use Rattle.plan.specs.Meaning.{PlanFile, on, off, add, trueIn, Full}
+use Rattle.plan.specs.Meaning.{PlanFile, add, trueIn, Full}
 use Rattle.plan.specs.Ranged.{Ranged}
 use Rattle.plan.specs.Closing.{Clashes}
-use Rattle.plan.specs.Search.{Closes, CloseIs, Lowest, nothing, found, Answer, decided, undecided, Searched, beyond}
-use Rattle.plan.proofs.Budget.{at-clash, at-plan, no-budget, off-finds, off-ends, on-decides, on-ends}
+use Rattle.plan.specs.Search.{Closes, CloseIs, Lowest, triedFirst, triedThen, nothing, found, Answer, decided, undecided, Searched, beyond}
+use Rattle.plan.proofs.Budget.{at-clash, at-plan, no-budget, first-finds, first-ends, then-decides, then-ends}
 use Rattle.closing.specs.Closed.{closedOf}
 use Rattle.search.specs.Report.{verdictOf, Reported}
 use Rattle.search.specs.declared.Verdict.{Verdict}
@@ -49,37 +49,37 @@ module _ (φ : PlanFile) (ok : Ranged φ) (a c : List ℤ) (i : ℕ) (k : Closes
     room : suc (budget - (count + 1)) ≡ budget - count
     room = omega arith
 
-    -- off held a plan, or used up the budget
-    pub off-side : (v : Verdict) → v ≢ Impossible → (p : List ℤ) (total : ℕ) → Reported φ (add c (off (suc i))) budget (count + 1) v p total → Reported φ a budget count v p total
-    off-side Plan n p total r =
+    -- the first side held a plan, or used up the budget
+    pub first-side : (v : Verdict) → v ≢ Impossible → (p : List ℤ) (total : ℕ) → Reported φ (add c (triedFirst φ (suc i))) budget (count + 1) v p total → Reported φ a budget count v p total
+    first-side Plan n p total r =
         let e = r .sum in
-        record { own = suc (r .own); sum = omega arith; most = r .most; searched = move room refl (off-finds φ ok a c i k l (r .searched)) }
-    off-side Impossible n p total r = absurd (n refl)
-    off-side Undecided n p total r =
+        record { own = suc (r .own); sum = omega arith; most = r .most; searched = move room refl (first-finds φ ok a c i k l (r .searched)) }
+    first-side Impossible n p total r = absurd (n refl)
+    first-side Undecided n p total r =
         let e = r .sum in
         let f = ends-at (r .searched) in
-        record { own = suc (budget - (count + 1)); sum = omega arith; most = r .most; searched = move room refl (off-ends φ ok a c i k l (r .searched)) }
+        record { own = suc (budget - (count + 1)); sum = omega arith; most = r .most; searched = move room refl (first-ends φ ok a c i k l (r .searched)) }
 
-    -- off held no plan, and on was tried
-    module _ (q : List ℤ) (middle : ℕ) (x : Reported φ (add c (off (suc i))) budget (count + 1) Impossible q middle) where
+    -- the first side held no plan, and the other was tried
+    module _ (q : List ℤ) (middle : ℕ) (x : Reported φ (add c (triedFirst φ (suc i))) budget (count + 1) Impossible q middle) where
       rest : budget - middle ≡ (budget - (count + 1)) - x .own
       rest = omega (arith, x .sum)
 
-      pub on-side : (v : Verdict) (p : List ℤ) (total : ℕ) → Reported φ (add c (on (suc i))) budget middle v p total → Reported φ a budget count v p total
-      on-side Plan p total y =
+      pub then-side : (v : Verdict) (p : List ℤ) (total : ℕ) → Reported φ (add c (triedThen φ (suc i))) budget middle v p total → Reported φ a budget count v p total
+      then-side Plan p total y =
           let e = x .sum in
           let f = y .sum in
-          record { own = suc (x .own + y .own); sum = omega arith; most = y .most; searched = move room refl (on-decides φ ok a c i k l (x .searched) (move rest refl (y .searched))) }
-      on-side Impossible p total y =
+          record { own = suc (x .own + y .own); sum = omega arith; most = y .most; searched = move room refl (then-decides φ ok a c i k l (x .searched) (move rest refl (y .searched))) }
+      then-side Impossible p total y =
           let e = x .sum in
           let f = y .sum in
-          record { own = suc (x .own + y .own); sum = omega arith; most = y .most; searched = move room refl (on-decides φ ok a c i k l (x .searched) (move rest refl (y .searched))) }
-      on-side Undecided p total y =
+          record { own = suc (x .own + y .own); sum = omega arith; most = y .most; searched = move room refl (then-decides φ ok a c i k l (x .searched) (move rest refl (y .searched))) }
+      then-side Undecided p total y =
           let e = x .sum in
           let m = x .most in
           let f = y .sum in
           let g = ends-at (y .searched) in
-          record { own = suc (budget - (count + 1)); sum = omega arith; most = y .most; searched = move room refl (on-ends φ ok a c i k l (x .searched) (move rest refl (y .searched))) }
+          record { own = suc (budget - (count + 1)); sum = omega arith; most = y .most; searched = move room refl (then-ends φ ok a c i k l (x .searched) (move rest refl (y .searched))) }
 
 -- the whole search, with nothing counted before it
 module _ (φ : PlanFile) (a c p : List ℤ) (budget total : ℕ) (v : Verdict) (e : a ≡ c) (r : Reported φ a budget 0 v p total) where

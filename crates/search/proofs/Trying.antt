@@ -4,14 +4,12 @@ use mathlib.Core.Path.{_≡_, refl, sym, subst}
 use mathlib.Core.List.{List}
 use Prim.Native.Nat.{ℕ, suc, _≤_}
 use native.Mathlib.Omega.{arith}
-use lib.IntN.{ℤ, negℤ, natAbs}
-use lib.Dec.{T}
-use Rattle.plan.specs.Meaning.{PlanFile, trueIn, add, on, off}
+use lib.IntN.{ℤ, natAbs}
+use Rattle.plan.specs.Meaning.{PlanFile, trueIn, add}
 use Rattle.plan.specs.Closing.{unit, all-false}
 use Rattle.plan.specs.Search.{Assigned, Closes, Lowest}
 use Rattle.plan.specs.Tables.{clausesOf}
-use Rattle.plan.proofs.Add.{add-shape}
-use Rattle.plan.proofs.Search.{low-n, not-on, not-off}
+use Rattle.plan.proofs.Search.{low-n, tried-open, other-open, tried-shape}
 use Rattle.unit.specs.Clauses.{AllQuiet}
 use Rattle.unit.specs.Queue.{Known}
 
@@ -21,23 +19,16 @@ closed-quiet φ a c k C m = record {
   free = λ f. k .closed .free (all-false C m f);
 }
 
--- both literals of the lowest open variable
-module _ (n : ℕ) (cs c : List ℤ) (i : ℕ) (s : Assigned n c) (l : Lowest c i) (q : AllQuiet (trueIn c) (clausesOf cs)) where
-  known : (x : ℤ) → natAbs x ≡ suc i → (T (trueIn c x) → ⊥) → (T (trueIn c (negℤ x)) → ⊥) → Known cs (add c x) x
-  known x e f g z =
-      let h : natAbs x ≤ n = omega (arith, low-n n c i s l) in
-      let t = add-shape n c x (omega (arith, s .long)) s in record {
-        before = c;
-        shape = subst (λ k. Assigned k c) (sym (t .long)) s;
-        fits = record { low = omega arith; high = omega (arith, t .long) };
-        not-true = f;
-        not-false = g;
-        is = refl;
-        quiet = q;
-      }
-
-  pub known-off : Known cs (add c (off (suc i))) (off (suc i))
-  known-off = known (off (suc i)) refl (not-off n c i s l) (not-on n c i s l)
-
-  pub known-on : Known cs (add c (on (suc i))) (on (suc i))
-  known-on = known (on (suc i)) refl (not-on n c i s l) (not-off n c i s l)
+-- a literal of the lowest open variable
+pub known-tried : (n : ℕ) (cs c : List ℤ) (i : ℕ) → Assigned n c → Lowest c i → AllQuiet (trueIn c) (clausesOf cs) → (x : ℤ) → natAbs x ≡ suc i → Known cs (add c x) x
+known-tried n cs c i s l q x e z =
+    let h : natAbs x ≤ n = omega (arith, low-n n c i s l) in
+    let t = tried-shape n c i s l x e in record {
+      before = c;
+      shape = subst (λ k. Assigned k c) (sym (t .long)) s;
+      fits = record { low = omega arith; high = omega (arith, t .long) };
+      not-true = tried-open n c i s l x e;
+      not-false = other-open n c i s l x e;
+      is = refl;
+      quiet = q;
+    }

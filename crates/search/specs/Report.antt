@@ -1,14 +1,14 @@
 -- What the search answers.
 -- Assumes nothing.
 use mathlib.Core.Path.{_≡_}
-use mathlib.Core.Logic.{_≢_}
 use mathlib.Core.List.{List}
-use Prim.Native.Nat.{ℕ, _+_, _-_, _≤_, _<_}
+use Prim.Native.Nat.{ℕ, _+_, _-_, _≤_}
 use lib.ListN.{length, getD, replicate}
 use lib.IntN.{ℤ, pos}
 use Rattle.plan.specs.Meaning.{PlanFile}
 use Rattle.plan.specs.Search.{Assigned, nothing, found, Answer, decided, undecided, Searched}
 use Rattle.plan.specs.Tables.{Lent}
+use Rattle.plan.specs.Places.{Without, First}
 use Rattle.plan.specs.declared.Plan.{Plan}
 use Rattle.search.specs.declared.Verdict.{Verdict}
 use Rattle.search.specs.declared.Verdict.the-variants as verdict
@@ -28,16 +28,17 @@ pub record Reported (φ : PlanFile) (a : List ℤ) (budget count : ℕ) (v : Ver
   pub most : total ≤ budget
   pub searched : Searched φ a (budget - count) (verdictOf v p) own
 
+-- The variable at place j is open.
+abbrev pub OpenAt : List ℤ → ℕ → Type 0
+OpenAt a j = getD a j (pos 0) ≡ pos 0
+
 -- The variables at the places below `from` are assigned.
 abbrev pub Filled : List ℤ → ℕ → Type 0
-Filled a from = (j : ℕ) → j < from → getD a j (pos 0) ≢ pos 0
+Filled a from = Without (OpenAt a) 0 from
 
 -- The first open place from `from` on; the length where there is none.
-pub record FirstOpen (a : List ℤ) (from r : ℕ) : Type 0 where
-  pub after : from ≤ r
-  pub inside : r ≤ length a
-  pub before : (j : ℕ) → from ≤ j → j < r → getD a j (pos 0) ≢ pos 0
-  pub here : r < length a → getD a r (pos 0) ≡ pos 0
+abbrev pub FirstOpen : List ℤ → ℕ → ℕ → Type 0
+FirstOpen a from r = First (OpenAt a) from (length a) r
 
 -- What a part of the search begins with: the tables, an assignment, and a budget that is not used up.
 pub record Begins (p : Plan) (es bs : List ℕ) (cs a : List ℤ) (budget count : ℕ) : Type 0 where

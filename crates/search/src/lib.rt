@@ -1,3 +1,4 @@
+// search: the first plan from all open, by closing and branching, with at most so many branchings.
 use index::Index;
 use plan::Assignment;
 use plan::Plan;
@@ -162,38 +163,38 @@ fn branch(
             count: count,
         };
     }
-    let on = (place + 1) as i16;
-    let off = -on;
-    let first = settle(
+    let first = plan::literal_of(place + 1, false);
+    let then = plan::literal_of(place + 1, true);
+    let tried = settle(
         plan,
         edges,
         atoms,
         clauses,
         places,
-        a.with(off),
-        off,
+        a.with(first),
+        first,
         place + 1,
         budget,
         count + 1,
     );
-    let verdict = first.verdict;
+    let verdict = tried.verdict;
     match verdict {
         Verdict::Impossible => {
-            let so_far = first.count;
+            let so_far = tried.count;
             settle(
                 plan,
                 edges,
                 atoms,
                 clauses,
                 places,
-                a.with(on),
-                on,
+                a.with(then),
+                then,
                 place + 1,
                 budget,
                 so_far,
             )
         }
-        _ => first,
+        _ => tried,
     }
 }
 

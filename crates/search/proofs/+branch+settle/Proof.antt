@@ -1,3 +1,4 @@
+-- The two functions that call one another: `settle` closes, and `branch` tries the two literals of the lowest open variable.
 use mathlib.Core.Path.{_≡_, ap, _∙_, subst}
 use mathlib.Core.Bool.{false}
 use mathlib.Core.List.{List}
@@ -5,26 +6,25 @@ use mathlib.Core.Logic.{⊎-elim}
 use Prim.Native.Nat.{ℕ, suc, _+_, _<_, _≤_}
 use native.Mathlib.Numerals.{add-one}
 use native.Mathlib.Omega.{arith}
-use lib.IntN.{ℤ, pos, _-ℤ_}
+use lib.IntN.{ℤ, natAbs}
 use lib.ListN.{length, take}
 use mir.Syntax.{w16}
-use mir.Val.{ofZ, toZ}
+use mir.Val.{SFits, ofZ, toZ}
 use mir.Facts.{toZ-ofZ}
 use borrow.Author.Needs.{needs}
-use Rattle.plan.specs.Meaning.{PlanFile, on, off, add, trueIn}
-use Rattle.plan.specs.Search.{Assigned, opens, Closes, Lowest}
-use Rattle.plan.specs.Tables.{clausesOf, planOf, Lent}
-use Rattle.plan.proofs.Exists.{natAbs-off}
-use Rattle.plan.proofs.Search.{off-shape, on-shape, low-n}
-use Rattle.unit.specs.Clauses.{AllQuiet}
+use Rattle.plan.specs.Meaning.{PlanFile, on, off, add}
+use Rattle.plan.specs.Search.{Assigned, opens, Closes, Lowest, triedFirst, triedThen}
+use Rattle.plan.specs.Ranged.{maxVariables, LiteralFits}
+use Rattle.plan.specs.Tables.{planOf, Lent}
+use Rattle.plan.proofs.Search.{low-n, tried-shape, tried-opens, first-of, then-of}
+use Rattle.index.specs.Places.{Indexed}
 use Rattle.unit.specs.Queue.{Known}
-use Rattle.plan.proofs.Literals.{on-is, off-is, off-fits}
-use Rattle.search.specs.Report.{Reported, Filled}
+use Rattle.search.specs.Report.{Reported, Filled, Begins}
 use Rattle.search.specs.declared.Verdict.{Verdict}
 use Rattle.search.specs.declared.Verdict.the-variants.{Impossible}
-use Rattle.search.proofs.Firsts.{take-add, filled-closed, first-lowest, first-full, filled-off, filled-on, fewer-off, fewer-on, fewer-closed}
-use Rattle.search.proofs.Trying.{closed-quiet, known-off, known-on}
-use Rattle.search.proofs.Parts.{closed-clash, closed-set, report-clash, report-plan, report-from, stop-here, off-side, on-side}
+use Rattle.search.proofs.Firsts.{take-add, filled-closed, first-lowest, first-full, filled-tried, fewer-closed}
+use Rattle.search.proofs.Trying.{closed-quiet, known-tried}
+use Rattle.search.proofs.Parts.{closed-clash, closed-set, report-clash, report-plan, report-from, stop-here, first-side, then-side}
 use borrow.Fn.Kinds.{In}
 use borrow.Fn.PlainCycle.{Measures, is, falls, and}
 use Rattle.search.proofs.branch.Reads as branch
@@ -34,6 +34,7 @@ use Rattle.search.proofs.settle.Reads as settle
 use Rattle.search.proofs.settle.Kinds as settle-kinds
 use Rattle.search.proofs.+branch+settle.Lts-settle as settle-lts
 use Rattle.plan.proofs.Assignment.with.Reads as with-reads
+use Rattle.plan.proofs.literal_of.Reads as literal-of-reads
 use Rattle.plan.proofs.wide.Reads as wide-reads
 use Rattle.search.proofs.closed.Reads as closed-reads
 use Rattle.search.proofs.open_place.Reads as open-place-reads
@@ -56,7 +57,7 @@ module _ (t : ℕ) where
   branch-at = and 4 branch-kinds.ps (is 4 branch-kinds.ps μ-branch t) branch.Pre
 
   abbrev branch-calls : branch-lts.Claims
-  branch-calls = (with-reads.Asked, with-reads.Learnt, and 4 settle-kinds.ps (falls 4 settle-kinds.ps _<_ μ-settle t) settle.Pre, settle.Post)
+  branch-calls = (literal-of-reads.Asked, literal-of-reads.Learnt, with-reads.Asked, with-reads.Learnt, and 4 settle-kinds.ps (falls 4 settle-kinds.ps _<_ μ-settle t) settle.Pre, settle.Post)
 
   -- at the beginning of a branching
   module _ (c : branch-lts.Start branch-calls branch-at branch.Post) where
@@ -81,51 +82,73 @@ module _ (t : ℕ) where
     low : Lowest set place
     low = c .pre .1 .1 .1 .1
 
-    quiet : AllQuiet (trueIn set) (clausesOf (c .args .clauses .now))
-    quiet = c .pre .1 .1 .1 .0
-
     inside : suc place ≤ n
     inside = low-n n set place shape low
 
-    small : place + 1 ≤ 512
+    small : place + 1 ≤ maxVariables
     small = omega (arith, inside, lent .ranged .variables)
 
-    -- the variable's literals, as the code makes them
-    abbrev minus : ℤ
-    minus = toZ w16 (ofZ w16 (pos 0 -ℤ toZ w16 (place + 1)))
+    -- a literal x of the variable, which the code has as y
+    module _ (x y : ℤ) (of : natAbs x ≡ suc place) (is : y ≡ x) where
+      fits : LiteralFits maxVariables y
+      fits = rw is (record { low = omega arith; high = omega (arith, small) })
 
-    is-off : minus ≡ off (suc place)
-    is-off = off-is (place + 1) small ∙ ap off (add-one place)
+      -- the assignment with it, as the call of `with` gives it
+      module _ (r : List ℤ) (e : r ≡ add (c .args .a .values) y) where
+        with-it : take n r ≡ add set x
+        with-it = ap (take n) (e ∙ ap (add (c .args .a .values)) is) ∙ take-add n (c .args .a .values) x (omega (arith, inside))
 
-    is-on : toZ w16 (place + 1) ≡ on (suc place)
-    is-on = on-is (place + 1) small ∙ ap on (add-one place)
+        abbrev Beginning : ℕ → Type 0
+        Beginning count = Begins (c .args .plan) (c .args .edges .now) (c .args .atoms .now) (c .args .clauses .now) (take n r) (c .args .budget) count
 
-    -- the assignment with one of them, as the call of `with` gives it
-    tried-off : (r : List ℤ) → r ≡ add (c .args .a .values) minus → take n r ≡ add set (off (suc place))
-    tried-off r e = ap (take n) (e ∙ ap (add (c .args .a .values)) is-off) ∙ take-add n (c .args .a .values) (off (suc place)) (omega (arith, natAbs-off (suc place), inside))
+        -- what `settle` is called with
+        starts : (count : ℕ) → count ≤ c .args .budget
+            → (twice-open n r + 1 < t) × (Beginning count × (Indexed (c .args .clauses .now) (c .args .places .now) × (Known (c .args .clauses .now) (take n r) y × ((place + 1 ≤ n) × Filled (take n r) (place + 1)))))
+        starts count left =
+            let known = known-tried n (c .args .clauses .now) set place shape low (c .pre .1 .1 .1 .0) x of in
+            let begins : Beginning count = record { lent = lent; shape = rw with-it (tried-shape n set place shape low x of); left = left } in
+            let fewer : twice-open n r + 1 < t = omega (arith, ap opens with-it, tried-opens n set place shape low x of, c .pre .0) in
+            (fewer, (begins, (c .pre .1 .1 .0, (rw (with-it, is) known, (omega (arith, inside), rw with-it (filled-tried set place low x of))))))
 
-    tried-on : (r : List ℤ) → r ≡ add (c .args .a .values) (toZ w16 (place + 1)) → take n r ≡ add set (on (suc place))
-    tried-on r e = ap (take n) (e ∙ ap (add (c .args .a .values)) is-on) ∙ take-add n (c .args .a .values) (on (suc place)) inside
-
-    off-known : (r : List ℤ) → take n r ≡ add set (off (suc place)) → Known (c .args .clauses .now) (take n r) minus
-    off-known r e = rw (e, is-off) (known-off n (c .args .clauses .now) set place shape low quiet)
-
-    on-known : (r : List ℤ) → take n r ≡ add set (on (suc place)) → Known (c .args .clauses .now) (take n r) (toZ w16 (place + 1))
-    on-known r e = rw (e, is-on) (known-on n (c .args .clauses .now) set place shape low quiet)
-
-  -- where off was tried: what it reports, if that is no plan
-  module _ (c : branch-lts.After-settle branch-calls branch-at branch.Post) where
+  -- the two literals, as the code makes them
+  module _ (c : branch-lts.After-literal-of2 branch-calls branch-at branch.Post) where
     abbrev begin : branch-lts.Start branch-calls branch-at branch.Post
     begin = c .before .before .before .before .before
+
+    abbrev first : ℤ
+    first = toZ w16 (ofZ w16 (c .before .literal-of .result))
+
+    abbrev then : ℤ
+    then = toZ w16 (ofZ w16 (c .literal-of2 .result))
+
+    is-first : first ≡ triedFirst (whole begin) (suc (place begin))
+    is-first = let f : SFits w16 (c .before .literal-of .result) = search needs in toZ-ofZ f ∙ c .before .literal-of .ensures ∙ ap off (add-one (place begin))
+
+    is-then : then ≡ triedThen (whole begin) (suc (place begin))
+    is-then = let f : SFits w16 (c .literal-of2 .result) = search needs in toZ-ofZ f ∙ c .literal-of2 .ensures ∙ ap on (add-one (place begin))
+
+    of-first : natAbs (triedFirst (whole begin) (suc (place begin))) ≡ suc (place begin)
+    of-first = first-of (whole begin) (suc (place begin))
+
+    of-then : natAbs (triedThen (whole begin) (suc (place begin))) ≡ suc (place begin)
+    of-then = then-of (whole begin) (suc (place begin))
 
     room : begin .args .count < begin .args .budget
     room = omega (arith, begin .pre .1 .0 .left, c .before .before .if1 .left)
 
+  -- where the first was tried: what it reports, if that is no plan
+  module _ (c : branch-lts.After-settle branch-calls branch-at branch.Post) where
+    abbrev made : branch-lts.After-literal-of2 branch-calls branch-at branch.Post
+    made = c .before .before
+
+    abbrev entered : branch-lts.Start branch-calls branch-at branch.Post
+    entered = begin made
+
     abbrev Left : Verdict → Type 0
-    Left v = Reported (whole begin) (add (set begin) (off (suc (place begin)))) (begin .args .budget) (begin .args .count + 1) v (take (n begin) (c .settle .result .plan .values)) (c .settle .result .count)
+    Left v = Reported (whole entered) (add (set entered) (triedFirst (whole entered) (suc (place entered)))) (entered .args .budget) (entered .args .count + 1) v (take (n entered) (c .settle .result .plan .values)) (c .settle .result .count)
 
     left : Left (c .settle .result .verdict)
-    left = report-from (whole begin) _ _ _ _ _ _ (c .settle .result .verdict) (tried-off begin (c .before .with .result .values) (c .before .with .ensures)) (c .settle .ensures)
+    left = report-from (whole entered) _ _ _ _ _ _ (c .settle .result .verdict) (with-it entered _ (first made) (of-first made) (is-first made) (c .before .with .result .values) (c .before .with .ensures)) (c .settle .ensures)
 
     left-none : c .settle .result .verdict ≡ Impossible → Left Impossible
     left-none e = subst Left e left
@@ -133,91 +156,65 @@ module _ (t : ℕ) where
   branch-returns : branch-lts.Need-returns branch-calls branch-at branch.Post
   branch-returns c = λ b k. let d = c .before .before .before in stop-here (whole d) (lent d .ranged) b (set d) (place d) k (low d) (d .args .budget) (d .args .count) (set d) (c .if1 .taken)
 
-  branch-add-on : branch-lts.Need-add-on branch-calls branch-at branch.Post
-  branch-add-on c = let h = small (c .before .before .before) in search needs
+  branch-add-literal-of : branch-lts.Need-add-literal-of branch-calls branch-at branch.Post
+  branch-add-literal-of c = let h = small (c .before .before .before) in search needs
 
-  branch-cast-on : branch-lts.Need-cast-on branch-calls branch-at branch.Post
-  branch-cast-on c = let h = small (c .before .before .before) in record { sfits = omega arith }
+  branch-literal-of-requires : branch-lts.Need-literal-of-requires branch-calls branch-at branch.Post
+  branch-literal-of-requires c κs = small (c .before .before .before)
 
-  branch-sub-off : branch-lts.Need-sub-off branch-calls branch-at branch.Post
-  branch-sub-off c = off-fits _ (small (c .before .before .before))
+  branch-add-literal-of-2 : branch-lts.Need-add-literal-of-2 branch-calls branch-at branch.Post
+  branch-add-literal-of-2 c = let h = small (c .before .before .before .before) in search needs
+
+  branch-literal-of-requires-2 : branch-lts.Need-literal-of-requires-2 branch-calls branch-at branch.Post
+  branch-literal-of-requires-2 c κs = small (c .before .before .before .before)
 
   branch-with-requires : branch-lts.Need-with-requires branch-calls branch-at branch.Post
-  branch-with-requires c κs =
-      let d = c .before .before .before in
-      rw (off-is (place d + 1) (small d)) (record { low = omega (arith, natAbs-off (place d + 1)); high = omega (arith, natAbs-off (place d + 1), small d) })
+  branch-with-requires c κs = fits (begin c) _ (first c) (of-first c) (is-first c)
 
   branch-add-settle : branch-lts.Need-add-settle branch-calls branch-at branch.Post
-  branch-add-settle c = let h = small (c .before .before .before .before) in search needs
+  branch-add-settle c = let h = small (begin (c .before)) in search needs
 
   branch-add-settle-2 : branch-lts.Need-add-settle-2 branch-calls branch-at branch.Post
-  branch-add-settle-2 c = let d = c .before .before .before .before in omega (arith, d .pre .1 .0 .left, c .before .if1 .left)
+  branch-add-settle-2 c = let h = room (c .before) in omega arith
 
   branch-settle-requires : branch-lts.Need-settle-requires branch-calls branch-at branch.Post
-  branch-settle-requires c κs =
-      let d = c .before .before .before .before in
-      let e = tried-off d (c .with .result .values) (c .with .ensures) in
-      let o = ap opens e in
-      let f = fewer-off (n d) (set d) (place d) (shape d) (low d) in
-      let m = d .pre .0 in (
-        omega arith,
-        (
-          record { lent = lent d; shape = rw e (off-shape (whole d) (set d) (place d) (shape d) (low d)); left = omega (arith, d .pre .1 .0 .left, c .before .if1 .left) },
-          (
-            d .pre .1 .1 .0,
-            (off-known d (c .with .result .values) e, (omega (arith, inside d), rw e (filled-off (n d) (set d) (place d) (shape d) (low d)))),
-          ),
-        ),
-      )
+  branch-settle-requires c κs = let m = c .before in starts (begin m) _ (first m) (of-first m) (is-first m) (c .with .result .values) (c .with .ensures) (begin m .args .count + 1) (omega (arith, room m))
 
   branch-enum-told : branch-lts.Need-enum-told branch-calls branch-at branch.Post
   branch-enum-told c = search needs
 
   branch-with-requires-2 : branch-lts.Need-with-requires-2 branch-calls branch-at branch.Post
-  branch-with-requires-2 c κs =
-      let d = c .before .before .before .before .before .before .before in
-      rw (on-is (place d + 1) (small d)) (record { low = omega arith; high = small d })
+  branch-with-requires-2 c κs = let m = made (c .before .before) in fits (begin m) _ (then m) (of-then m) (is-then m)
 
   branch-add-settle-3 : branch-lts.Need-add-settle-3 branch-calls branch-at branch.Post
-  branch-add-settle-3 c = let h = small (c .before .before .before .before .before .before .before .before) in search needs
+  branch-add-settle-3 c = let h = small (entered (c .before .before .before)) in search needs
 
   branch-settle-requires-2 : branch-lts.Need-settle-requires-2 branch-calls branch-at branch.Post
   branch-settle-requires-2 c κs =
       let s = c .before .before .before in
-      let d = begin s in
-      let e = tried-on d (c .with2 .result .values) (c .with2 .ensures) in
-      let o = ap opens e in
-      let f = fewer-on (n d) (set d) (place d) (shape d) (low d) in
-      let m = d .pre .0 in (
-        omega arith,
-        (
-          record { lent = lent d; shape = rw e (on-shape (whole d) (set d) (place d) (shape d) (low d)); left = left s .most },
-          (
-            d .pre .1 .1 .0,
-            (on-known d (c .with2 .result .values) e, (omega (arith, inside d), rw e (filled-on (n d) (set d) (place d) (shape d) (low d)))),
-          ),
-        ),
-      )
+      let m = made s in
+      starts (begin m) _ (then m) (of-then m) (is-then m) (c .with2 .result .values) (c .with2 .ensures) (s .settle .result .count) (left s .most)
 
   branch-returns-2 : branch-lts.Need-returns-2 branch-calls branch-at branch.Post
   branch-returns-2 c = λ b k.
       let s = c .before .before .before .before in
-      let d = begin s in
-      on-side (whole d) (lent d .ranged) b (set d) (place d) k (low d) (d .args .budget) (d .args .count) (room s) (take (n d) (s .settle .result .plan .values)) (s .settle .result .count)
+      let m = made s in
+      let d = begin m in
+      then-side (whole d) (lent d .ranged) b (set d) (place d) k (low d) (d .args .budget) (d .args .count) (room m) (take (n d) (s .settle .result .plan .values)) (s .settle .result .count)
       (left-none s (c .before .before .enum-told .given .1)) (c .settle2 .result .verdict) (take (n d) (c .settle2 .result .plan .values)) (c .settle2 .result .count)
-      (report-from (whole d) _ _ _ _ _ _ (c .settle2 .result .verdict) (tried-on d (c .before .with2 .result .values) (c .before .with2 .ensures)) (c .settle2 .ensures))
+      (report-from (whole d) _ _ _ _ _ _ (c .settle2 .result .verdict) (with-it d _ (then m) (of-then m) (is-then m) (c .before .with2 .result .values) (c .before .with2 .ensures)) (c .settle2 .ensures))
 
   branch-returns-3 : branch-lts.Need-returns-3 branch-calls branch-at branch.Post
   branch-returns-3 c = λ b k.
       let s = c .before in
-      let d = begin s in
+      let d = entered s in
       let w = s .settle .result .verdict in
       let other : w ≡ Impossible → ⊥ =
       λ e. ⊎-elim (λ (p : _≡_ {A = ℕ} 1 0). omega arith) (λ (p : _≡_ {A = ℕ} 1 2). omega arith) (rw e at (c .match .keys2)) in
-      off-side (whole d) (lent d .ranged) b (set d) (place d) k (low d) (d .args .budget) (d .args .count) (room s) w other (take (n d) (s .settle .result .plan .values)) (s .settle .result .count) (left s)
+      first-side (whole d) (lent d .ranged) b (set d) (place d) k (low d) (d .args .budget) (d .args .count) (room (made s)) w other (take (n d) (s .settle .result .plan .values)) (s .settle .result .count) (left s)
 
   branch-closed : {M : Type 1} → branch-lts.Closed branch-calls branch-at branch.Post M
-  branch-closed = branch-lts.spec branch-calls branch-at branch.Post branch-returns branch-add-on branch-cast-on branch-sub-off branch-with-requires branch-add-settle branch-add-settle-2 branch-settle-requires branch-enum-told branch-with-requires-2 branch-add-settle-3 branch-settle-requires-2 branch-returns-2 branch-returns-3
+  branch-closed = branch-lts.spec branch-calls branch-at branch.Post branch-returns branch-add-literal-of branch-literal-of-requires branch-add-literal-of-2 branch-literal-of-requires-2 branch-with-requires branch-add-settle branch-add-settle-2 branch-settle-requires branch-enum-told branch-with-requires-2 branch-add-settle-3 branch-settle-requires-2 branch-returns-2 branch-returns-3
 
 -- `settle` at the measure t
 module _ (t : ℕ) where

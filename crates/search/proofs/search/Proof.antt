@@ -7,6 +7,7 @@ use lib.ListN.{take, replicate}
 use Rattle.plan.specs.Meaning.{PlanFile}
 use Rattle.plan.specs.Search.{Assigned}
 use Rattle.plan.specs.Tables.{planOf}
+use Rattle.plan.proofs.Places.{without-none}
 use Rattle.unit.proofs.Following.{known-nothing}
 use Rattle.closing.proofs.Lending.{lent-indexable}
 use Rattle.search.proofs.Firsts.{all-open-is, all-open-shape}
@@ -38,7 +39,7 @@ settle-requires : tie.Need-settle-requires
 settle-requires c κs =
     let d = c .before in (
       record { lent = begin d .pre .0; shape = subst (λ l. Assigned (n d) l) (sym (starts d)) (all-open-shape (n d)); left = omega arith },
-      (d .before .before .index-of .ensures, (known-nothing _ _, (omega arith, λ j h. absurd (omega arith)))),
+      (d .before .before .index-of .ensures, (known-nothing _ _, (omega arith, without-none _ 0))),
     )
 
 enum-told : tie.Need-enum-told
