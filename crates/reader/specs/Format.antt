@@ -1,4 +1,4 @@
--- The plan file: what a file reads as. Document 01, "PlanFile file" and "Numbers given on refusal", 1 to 8.
+-- The plan file: what a file reads as. Document 01, "Plan file" and "Numbers given on refusal", 1 to 8.
 -- Assumes nothing.
 use Prim.Native.Nat.{ℕ, zero, suc, _+_, _-_, _*_, _/_}
 use mathlib.Core.Bool.{Bool, true, false, not, _&&_, _||_}
