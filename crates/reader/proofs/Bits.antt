@@ -1,15 +1,9 @@
 -- 16-bit words as signed numbers.
 -- Assumes nothing.
-use mathlib.Core.Path.{_≡_, refl, ap, _∙_}
-use mathlib.Core.Bool.{Bool, true, false, _&&_, _||_, or-false}
-use Prim.Native.Nat.{ℕ, zero, suc, _+_, _-_, _<_, _≤_}
-use native.Mathlib.Omega.{arith}
-use lib.Dec.{ltb, leb, eqb}
-use lib.IntN.{pos, negsuc, natAbs, _-ℤ_}
+use Rattle.reader.proofs.Kit.{_≡_, refl, ap, _∙_, Bool, true, false, _&&_, _||_, or-false, ℕ, zero, suc, _+_, _-_, _<_, _≤_, arith, lt-ltb, le-ltb, lt-leb, le-leb, ltb-true, ltb-false, ltb, leb, eqb, pos, negsuc, natAbs, _-ℤ_}
 use mir.Syntax.{w16}
 use mir.Val.{SFits, ofZ, toZ}
 use mir.Facts.{toZ-ofZ}
-use borrow.Author.Tests.{lt-ltb, le-ltb, lt-leb, le-leb, ltb-true, ltb-false}
 use Rattle.reader.specs.Format.{twos, pickZ, literalOk, kindOk}
 
 pub small16 : (k : ℕ) → k < 32768 → SFits w16 (pos k)

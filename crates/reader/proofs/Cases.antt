@@ -1,13 +1,6 @@
 -- A proof by cases over the records: what holds of every refusal, and of what a record that passes its tests leads to, holds of every record's step.
 -- Assumes nothing.
-use mathlib.Core.Path.{_≡_, refl}
-use mathlib.Core.Bool.{Bool, true, false, not, _&&_, and-eq-true-iff}
-use mathlib.Core.List.{List}
-use Prim.Native.Nat.{ℕ, _+_, _*_, _/_, _<_, _≤_}
-use native.Mathlib.Omega.{arith}
-use borrow.Author.Tests.{ltb-true, leb-true, eqb-true, not-true}
-use lib.Dec.{ltb, leb, eqb}
-use lib.ListN.{length}
+use Rattle.reader.proofs.Kit.{_≡_, refl, Bool, true, false, not, _&&_, and-eq-true-iff, List, ℕ, _+_, _*_, _/_, _<_, _≤_, arith, ltb-true, leb-true, eqb-true, not-true, ltb, leb, eqb, length}
 use Rattle.plan.specs.Meaning.{PlanFile}
 use Rattle.plan.specs.Ranged.{maxBytes, maxEdges, maxAtoms, maxClauses, maxLiterals, literals}
 use Rattle.reader.specs.Format.{Step, refuse, next, done, check, pick, inOrder, word, tagAt, lenAt, after, fits, headOk, edgeOk, atomOk, literalsOk, clauseLen, edgeUses, atomUses, edgeIn, atomIn, clauseIn, addEdge, addAtom, addClause, emptyPlan, edgeAt, atomAt, clauseAt, endAt, stepAt, headAt}

@@ -1,11 +1,6 @@
 -- The definition needs no count of turns, and no second answer fits the reader's contract.
 -- Assumes nothing.
-use mathlib.Core.Path.{_≡_, refl, sym, ap, _∙_, subst}
-use mathlib.Core.List.{List}
-use Prim.Native.Nat.{ℕ, zero, suc, _+_, _*_, _<_, _≤_}
-use native.Mathlib.Omega.{arith}
-use lib.IntN.{ℤ}
-use lib.ListN.{length, take}
+use Rattle.reader.proofs.Kit.{_≡_, refl, sym, ap, _∙_, subst, List, ℕ, zero, suc, _+_, _*_, _<_, _≤_, arith, ℤ, length, take}
 use Rattle.plan.specs.Meaning.{PlanFile}
 use Rattle.reader.specs.Format.{Step, refuse, next, done, Reading, refused, accepted, onward, stepAt, headAt, records, readPlan}
 use Rattle.reader.specs.Filling.{Tables, Room, Answers}

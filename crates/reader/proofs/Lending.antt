@@ -1,13 +1,8 @@
 -- What an accepted file leaves in the tables is what the library lends on: the plan file itself, in range.
 -- Assumes nothing.
-use mathlib.Core.Path.{_≡_, refl, sym, ap, _∙_, subst}
+use Rattle.reader.proofs.Kit.{_≡_, refl, sym, ap, _∙_, subst, List, [], _∷_, List·Memᴰ, ℕ, _+_, _*_, arith, ℤ, pos, natAbs, length, take, length-append}
 use mathlib.Core.Logic.{_≢_}
-use mathlib.Core.List.{List, [], _∷_, List·Memᴰ}
-use Prim.Native.Nat.{ℕ, _+_, _*_}
-use native.Mathlib.Omega.{arith}
 use native.Mathlib.Nat.{suc-mul, add-comm}
-use lib.IntN.{ℤ, pos, natAbs}
-use lib.ListN.{length, take, length-append}
 use Rattle.plan.specs.Meaning.{Edge, Atom}
 use Rattle.plan.specs.Ranged.{Ranged, literals}
 use Rattle.plan.specs.Written.{flat}

@@ -1,3 +1,4 @@
+pub mod Kit
 pub mod Bits
 pub mod Rows
 pub mod Steps

@@ -1,11 +1,6 @@
 -- From record to record: what is read from where the loop stands is what the file reads as.
 -- Assumes nothing.
-use mathlib.Core.Path.{_≡_, ap, _∙_, subst}
-use mathlib.Core.List.{List}
-use Prim.Native.Nat.{ℕ, suc, _-_, _≤_, _<_}
-use native.Mathlib.Omega.{arith}
-use lib.IntN.{ℤ}
-use lib.ListN.{length}
+use Rattle.reader.proofs.Kit.{_≡_, ap, _∙_, subst, List, ℕ, suc, _-_, _<_, _≤_, arith, ℤ, length}
 use Rattle.plan.specs.Meaning.{PlanFile}
 use Rattle.plan.specs.Ranged.{Ranged}
 use Rattle.plan.specs.declared.Plan as counted

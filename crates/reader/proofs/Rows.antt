@@ -1,14 +1,6 @@
 -- Rows of flat tables, and lists of literals.
 -- Assumes nothing.
-use mathlib.Core.Path.{_≡_, refl, sym, ap, _∙_}
-use mathlib.Core.Bool.{Bool, true, false, _&&_, _||_}
-use mathlib.Core.List.{List, [], _∷_, _++_, append-assoc, append-nil}
-use Prim.Native.Nat.{ℕ, zero, suc, _+_, _-_, _<_, _≤_}
-use native.Mathlib.Omega.{arith}
-use lib.Dec.{eqb}
-use borrow.Author.Tests.{eq-eqb, ne-eqb}
-use lib.IntN.{ℤ, pos}
-use lib.ListN.{length, take, drop, getD, set, length-set, length-drop, length-append}
+use Rattle.reader.proofs.Kit.{_≡_, refl, sym, ap, _∙_, Bool, true, false, _&&_, _||_, List, [], _∷_, _++_, append-assoc, append-nil, ℕ, zero, suc, _+_, _-_, _<_, _≤_, arith, eq-eqb, ne-eqb, eqb, ℤ, pos, length, take, drop, getD, set, length-set, length-drop, length-append}
 use lib.Seq.{take-suc-set, append-snoc, getD-drop, getD-take, drop-drop, length-take-le}
 use Rattle.plan.specs.Meaning.{Edge, Atom}
 use Rattle.plan.specs.Ranged.{literals}

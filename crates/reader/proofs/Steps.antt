@@ -1,14 +1,6 @@
 -- What each record leads to, told by the counts and the tables: the tests that the code makes are the definition's.
 -- Assumes nothing.
-use mathlib.Core.Path.{_≡_, refl, sym, ap, _∙_}
-use mathlib.Core.Bool.{true, not, _&&_, and-eq-true-iff}
-use mathlib.Core.List.{List, [], _∷_, _++_, append-assoc}
-use Prim.Native.Nat.{ℕ, _+_, _*_, _/_, _≤_}
-use native.Mathlib.Omega.{arith}
-use borrow.Author.Tests.{leb-true}
-use lib.Dec.{ltb, leb, eqb}
-use lib.IntN.{ℤ, pos}
-use lib.ListN.{length, take}
+use Rattle.reader.proofs.Kit.{_≡_, refl, sym, ap, _∙_, true, not, _&&_, and-eq-true-iff, List, [], _∷_, _++_, append-assoc, ℕ, _+_, _*_, _/_, _≤_, arith, leb-true, ltb, leb, eqb, ℤ, pos, length, take}
 use Rattle.plan.specs.Meaning.{PlanFile}
 use Rattle.plan.specs.Ranged.{maxEdges, maxAtoms, maxClauses, maxLiterals, literals}
 use Rattle.plan.specs.Written.{flat}

@@ -1,13 +1,5 @@
 -- `head` leads where the definition does: each way out by the tests on the way to it.
-use mathlib.Core.Path.{_≡_, refl, sym, _∙_}
-use mathlib.Core.Bool.{true}
-use mathlib.Core.List.{List}
-use native.Mathlib.Omega.{arith}
-use Prim.Native.Nat.{ℕ, _≤_}
-use lib.Dec.{leb, eqb}
-use lib.ListN.{length}
-use borrow.Author.Needs.{needs}
-use borrow.Author.Tests.{lt-leb, le-leb, eq-eqb, ne-eqb, not-true, not-false}
+use Rattle.reader.proofs.Kit.{_≡_, refl, sym, _∙_, true, List, ℕ, _≤_, arith, needs, lt-leb, le-leb, eq-eqb, ne-eqb, not-true, not-false, leb, eqb, length}
 use Rattle.reader.specs.Format.{fits, tagAt, lenAt, after, headOk, headAt, word}
 use Rattle.reader.proofs.Steps.{fits-is, empty-tables}
 use Rattle.reader.proofs.head.Statement.{statement}

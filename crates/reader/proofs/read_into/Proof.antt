@@ -1,6 +1,5 @@
 -- `read_into` answers with what the file reads as: each step of the code is one of the definition.
-use Prim.Native.Nat.{_-_}
-use borrow.Author.Needs.{needs}
+use Rattle.reader.proofs.Kit.{_-_, needs}
 use Rattle.reader.proofs.Exact.{room-of}
 use Rattle.reader.proofs.Loop.{left, Reached, begins, answers-refused, answers-accepted, standing, goes-on, falls}
 use Rattle.reader.proofs.read_into.Statement.{statement}

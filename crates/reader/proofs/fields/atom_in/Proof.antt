@@ -1,7 +1,4 @@
-use Prim.Native.Nat.{_+_}
-use native.Mathlib.Omega.{arith}
-use borrow.Author.Needs.{needs}
-use lib.ListN.{getD}
+use Rattle.reader.proofs.Kit.{_+_, arith, needs, getD}
 use Rattle.reader.proofs.fields.atom_in.Statement.{statement}
 use Rattle.reader.proofs.fields.atom_in.Tie as tie
 

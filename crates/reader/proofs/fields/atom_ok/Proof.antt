@@ -1,7 +1,5 @@
 -- `atom_ok` tests the kind first, then what an edge has too.
-use mathlib.Core.Path.{sym, _∙_}
-use borrow.Author.Needs.{needs}
-use borrow.Author.Tests.{not-true, not-false}
+use Rattle.reader.proofs.Kit.{sym, _∙_, needs, not-true, not-false}
 use Rattle.reader.proofs.fields.atom_ok.Statement.{statement}
 use Rattle.reader.proofs.fields.atom_ok.Tie as tie
 

@@ -1,4 +1,4 @@
-use borrow.Author.Needs.{needs}
+use Rattle.reader.proofs.Kit.{needs}
 use Rattle.reader.proofs.fields.edge_in.Statement.{statement}
 use Rattle.reader.proofs.fields.edge_in.Tie as tie
 

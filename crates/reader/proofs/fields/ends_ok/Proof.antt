@@ -1,5 +1,5 @@
 -- `ends_ok` makes the definition's tests of a record's two nodes and its variable.
-use borrow.Author.Tests.{lt-ltb, le-ltb, lt-leb, le-leb}
+use Rattle.reader.proofs.Kit.{lt-ltb, le-ltb, lt-leb, le-leb}
 use Rattle.reader.specs.Format.{endsOk}
 use Rattle.reader.proofs.fields.ends_ok.Statement.{statement}
 use Rattle.reader.proofs.fields.ends_ok.Tie as tie

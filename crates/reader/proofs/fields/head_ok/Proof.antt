@@ -1,4 +1,4 @@
-use borrow.Author.Tests.{lt-leb, le-leb}
+use Rattle.reader.proofs.Kit.{lt-leb, le-leb}
 use Rattle.reader.specs.Format.{headOk}
 use Rattle.reader.proofs.fields.head_ok.Statement.{statement}
 use Rattle.reader.proofs.fields.head_ok.Tie as tie

@@ -1,6 +1,5 @@
 use Rattle.reader.proofs.Bits.{kind-one, kind-two}
-use mathlib.Core.Path.{sym}
-use borrow.Author.Tests.{ne-eqb}
+use Rattle.reader.proofs.Kit.{sym, ne-eqb}
 use Rattle.reader.specs.Format.{kindOk}
 use Rattle.reader.proofs.fields.kind_ok.Statement.{statement}
 use Rattle.reader.proofs.fields.kind_ok.Tie as tie

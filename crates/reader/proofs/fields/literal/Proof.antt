@@ -1,9 +1,6 @@
-use mathlib.Core.Path.{sym, _∙_}
-use native.Mathlib.Omega.{arith}
-use Prim.Native.Nat.{_-_}
+use Rattle.reader.proofs.Kit.{sym, _∙_, _-_, arith, needs}
 use mir.Facts.{toZ-ofZ}
 use Rattle.reader.proofs.Bits.{small16, off-fits16, off-is16, twos-low, twos-high}
-use borrow.Author.Needs.{needs}
 use Rattle.reader.proofs.fields.literal.Statement.{statement}
 use Rattle.reader.proofs.fields.literal.Tie as tie
 

@@ -1,6 +1,5 @@
-use borrow.Author.Tests.{lt-leb, le-leb}
+use Rattle.reader.proofs.Kit.{needs, lt-leb, le-leb}
 use Rattle.reader.proofs.Bits.{low-ok, high-ok}
-use borrow.Author.Needs.{needs}
 use Rattle.reader.proofs.fields.literal_ok.Statement.{statement}
 use Rattle.reader.proofs.fields.literal_ok.Tie as tie
 

@@ -1,10 +1,4 @@
-use mathlib.Core.Path.{_≡_, refl, sym, ap, _∙_}
-use mathlib.Core.List.{List, _∷_}
-use native.Mathlib.Omega.{arith}
-use Prim.Native.Nat.{ℕ, _+_, _-_, _*_}
-use lib.IntN.{ℤ}
-use borrow.Author.Needs.{needs}
-use borrow.Author.Tests.{not-true, not-false}
+use Rattle.reader.proofs.Kit.{_≡_, refl, sym, ap, _∙_, List, _∷_, ℕ, _+_, _-_, _*_, arith, needs, not-true, not-false, ℤ}
 use Rattle.reader.specs.Format.{word, twos, literalOk, literalsOk, literalsIn}
 use Rattle.reader.proofs.Rows.{literals-step, literals-none, literals-ok-step, literals-ok-stop, literals-ok-none}
 use Rattle.reader.proofs.fields.literals_ok.Statement.{statement}

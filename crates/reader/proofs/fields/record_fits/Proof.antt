@@ -1,9 +1,4 @@
-use mathlib.Core.Path.{_∙_}
-use native.Mathlib.Omega.{arith}
-use Prim.Native.Nat.{_+_}
-use lib.ListN.{length}
-use borrow.Author.Needs.{needs}
-use borrow.Author.Tests.{lt-leb, le-leb}
+use Rattle.reader.proofs.Kit.{_∙_, _+_, arith, needs, lt-leb, le-leb, length}
 use Rattle.reader.specs.Format.{fits, after}
 use Rattle.reader.proofs.fields.record_fits.Statement.{statement}
 use Rattle.reader.proofs.fields.record_fits.Tie as tie

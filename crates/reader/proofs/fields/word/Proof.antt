@@ -1,6 +1,4 @@
-use Prim.Native.Nat.{_+_}
-use native.Mathlib.Omega.{arith}
-use borrow.Author.Needs.{needs}
+use Rattle.reader.proofs.Kit.{_+_, arith, needs}
 use Rattle.reader.proofs.fields.word.Statement.{statement}
 use Rattle.reader.proofs.fields.word.Tie as tie
 

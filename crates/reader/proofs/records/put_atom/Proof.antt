@@ -1,10 +1,5 @@
 -- `put_atom` writes an atom's row behind those that stand there.
-use Prim.Native.Nat.{_+_, _*_}
-use native.Mathlib.Omega.{arith}
-use mathlib.Core.List.{[], _∷_}
-use mathlib.Core.Path.{refl}
-use lib.ListN.{length-set}
-use borrow.Author.Needs.{needs}
+use Rattle.reader.proofs.Kit.{refl, [], _∷_, _+_, _*_, arith, needs, length-set}
 use Rattle.reader.proofs.Rows.{put-row}
 use Rattle.reader.proofs.records.put_atom.Statement.{statement}
 use Rattle.reader.proofs.records.put_atom.Tie as tie

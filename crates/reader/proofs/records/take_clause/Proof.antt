@@ -1,12 +1,5 @@
 -- `take_clause` leads where the definition does: each way out by the tests on the way to it.
-use mathlib.Core.Path.{_≡_, refl, sym, ap, _∙_}
-use mathlib.Core.Bool.{true}
-use mathlib.Core.List.{List}
-use native.Mathlib.Omega.{arith}
-use Prim.Native.Nat.{ℕ, _+_, _/_, _<_}
-use lib.Dec.{ltb, leb}
-use borrow.Author.Needs.{needs}
-use borrow.Author.Tests.{not-true, not-false, eq-eqb, ne-eqb, lt-ltb, le-ltb, lt-leb, le-leb}
+use Rattle.reader.proofs.Kit.{_≡_, refl, sym, ap, _∙_, true, List, ℕ, _+_, _/_, _<_, arith, needs, lt-ltb, le-ltb, lt-leb, le-leb, eq-eqb, ne-eqb, not-true, not-false, ltb, leb}
 use Rattle.plan.specs.declared.Plan as counted
 use Rattle.reader.specs.Format.{lenAt, clauseIn, clauseLen, literalsIn, literalsOk}
 use Rattle.reader.proofs.Steps.{clause-step, clause-tables}

@@ -1,7 +1,5 @@
 -- `take_end` leads where the definition does.
-use mathlib.Core.Path.{refl, sym, _∙_}
-use borrow.Author.Needs.{needs}
-use borrow.Author.Tests.{eq-eqb, ne-eqb}
+use Rattle.reader.proofs.Kit.{refl, sym, _∙_, needs, eq-eqb, ne-eqb}
 use Rattle.reader.specs.Format.{endAt}
 use Rattle.reader.proofs.records.take_end.Statement.{statement}
 use Rattle.reader.proofs.records.take_end.Tie as tie

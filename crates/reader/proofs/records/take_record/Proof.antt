@@ -1,12 +1,5 @@
 -- `take_record` leads where the definition does, by the record's tag.
-use mathlib.Core.Path.{_≡_, refl, sym, _∙_}
-use mathlib.Core.Bool.{true}
-use mathlib.Core.List.{List}
-use native.Mathlib.Omega.{arith}
-use Prim.Native.Nat.{ℕ, _≤_}
-use lib.ListN.{length}
-use borrow.Author.Needs.{needs}
-use borrow.Author.Tests.{ne-eqb, not-true, not-false}
+use Rattle.reader.proofs.Kit.{_≡_, refl, sym, _∙_, true, List, ℕ, _≤_, arith, needs, ne-eqb, not-true, not-false, length}
 use Rattle.reader.specs.Format.{fits, after, stepAt}
 use Rattle.reader.proofs.Steps.{fits-is}
 use Rattle.reader.proofs.records.take_record.Statement.{statement}

@@ -1,8 +1,5 @@
 -- `uses` finds a variable at the end of a row: the rows passed have other ones there, and the rows left decide.
-use mathlib.Core.Path.{_≡_, refl, sym, _∙_}
-use native.Mathlib.Omega.{arith}
-use Prim.Native.Nat.{_-_, _≤_}
-use lib.ListN.{take, drop}
+use Rattle.reader.proofs.Kit.{_≡_, refl, sym, _∙_, _-_, _≤_, arith, take, drop}
 use Rattle.reader.specs.Filling.{lastIs}
 use Rattle.reader.proofs.Rows.{uses-hit, uses-miss, uses-end}
 use Rattle.reader.proofs.records.uses.Statement.{statement}
