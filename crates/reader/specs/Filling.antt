@@ -13,6 +13,7 @@ use Rattle.plan.specs.Ranged.{maxNodes, maxVariables, maxEdges, maxAtoms, maxCl
 use Rattle.plan.specs.Written.{flat}
 use Rattle.plan.specs.Refusals.{numberOf, valueOf}
 use Rattle.plan.specs.declared.Plan as counted
+use Rattle.plan.specs.declared.Refusal.{Refusal}
 use Rattle.reader.specs.declared.Step as code
 use Rattle.reader.specs.declared.Step.the-variants.{Refuse, Next, Done}
 use Rattle.reader.specs.declared.ReadAnswer.{ReadAnswer}
@@ -53,20 +54,14 @@ pub record Tables (p : PlanFile) (c : counted.Plan) (es bs : List ℕ) (cs : Lis
   pub literals : literals (p .clauses) ≡ c .literals
 
 -- The code's step is the definition's: the same refusal; the same offset, and the plan file so far stands in the tables; or the whole plan file does.
-abbrev pub Steps : Step → code.Step → List ℕ → List ℕ → List ℤ → Type 0
-Steps (refuse n v) (Refuse y) es bs cs = (n ≡ numberOf y) × (v ≡ valueOf y)
-Steps (refuse n v) (Next b c) es bs cs = ⊥
-Steps (refuse n v) (Done c) es bs cs = ⊥
-Steps (next a p) (Refuse y) es bs cs = ⊥
-Steps (next a p) (Next b c) es bs cs = (a ≡ b) × Tables p c es bs cs
-Steps (next a p) (Done c) es bs cs = ⊥
-Steps (done p) (Refuse y) es bs cs = ⊥
-Steps (done p) (Next b c) es bs cs = ⊥
-Steps (done p) (Done c) es bs cs = Tables p c es bs cs
+pub data Steps (es bs : List ℕ) (cs : List ℤ) : Step → code.Step → Type 0 where
+  refuses : {n v : ℕ} {y : Refusal} → n ≡ numberOf y → v ≡ valueOf y → Steps es bs cs (refuse n v) (Refuse y)
+  leads : {a b : ℕ} {p : PlanFile} {c : counted.Plan} → a ≡ b → Tables p c es bs cs → Steps es bs cs (next a p) (Next b c)
+  ends : {p : PlanFile} {c : counted.Plan} → Tables p c es bs cs → Steps es bs cs (done p) (Done c)
 
 -- What taking a record promises: of every plan file that stood in the tables before, with the counts c, the code's step is the definition's.
 abbrev pub Takes : (PlanFile → Step) → counted.Plan → List ℕ → List ℕ → List ℤ → code.Step → List ℕ → List ℕ → List ℤ → Type 0
-Takes s c es bs cs r es′ bs′ cs′ = (p : PlanFile) → Tables p c es bs cs → Steps (s p) r es′ bs′ cs′
+Takes s c es bs cs r es′ bs′ cs′ = (p : PlanFile) → Tables p c es bs cs → Steps es′ bs′ cs′ (s p) r
 
 -- What a read answer says of a reading.
 abbrev pub Answers : Reading → ReadAnswer → List ℕ → List ℕ → List ℤ → Type 0

@@ -31,7 +31,7 @@ pub enum Step {
 
 // The file's length and its head.
 fn head(file: &[u8]) -> Step
-    ensures { λ r. ⌜ ((es bs : List ℕ) (cs : List ℤ) → Steps (headAt (now (file .entry))) r es bs cs) ⌝ }
+    ensures { λ r. ⌜ ((es bs : List ℕ) (cs : List ℤ) → Steps es bs cs (headAt (now (file .entry))) r) ⌝ }
 {
     if file.len() > Plan::MAX_BYTES {
         return Step::Refuse(Refusal::TooLong);

@@ -1,6 +1,7 @@
 -- `head` leads where the definition does: each way out by the tests on the way to it.
 use Rattle.reader.proofs.Kit.{_≡_, refl, sym, _∙_, true, List, ℕ, _≤_, arith, needs, lt-leb, le-leb, eq-eqb, ne-eqb, not-true, not-false, leb, eqb, length}
 use Rattle.reader.specs.Format.{fits, tagAt, lenAt, after, headOk, headAt, word}
+use Rattle.reader.specs.Filling.{refuses, leads}
 use Rattle.reader.proofs.Steps.{fits-is, empty-tables}
 use Rattle.reader.proofs.head.Statement.{statement}
 use Rattle.reader.proofs.head.Tie as tie
@@ -38,29 +39,29 @@ module _ (c : tie.After-head-ok) where
 
 returns : tie.Need-returns
 unfolding headAt
-returns c = λ es bs cs. rw (lt-leb _ 16384 (c .if1 .taken)) (refl, refl)
+returns c = λ es bs cs. rw (lt-leb _ 16384 (c .if1 .taken)) (refuses refl refl)
 
 returns-2 : tie.Need-returns-2
 unfolding headAt
 returns-2 c = λ es bs cs.
-    rw (le-leb _ 16384 (c .before .before .if1 .left), sym (c .before .record-fits .ensures) ∙ not-true _ (c .if2 .taken)) (refl, refl)
+    rw (le-leb _ 16384 (c .before .before .if1 .left), sym (c .before .record-fits .ensures) ∙ not-true _ (c .if2 .taken)) (refuses refl refl)
 
 returns-3 : tie.Need-returns-3
 unfolding headAt
-returns-3 c = λ es bs cs. let d = c .before .before in rw (short d, fitting d, ne-eqb _ 1 (c .if3 .taken)) (refl, refl)
+returns-3 c = λ es bs cs. let d = c .before .before in rw (short d, fitting d, ne-eqb _ 1 (c .if3 .taken)) (refuses refl refl)
 
 returns-4 : tie.Need-returns-4
 unfolding headAt
 returns-4 c = λ es bs cs.
     let d = c .before .before .before .before in
-    rw (short d, fitting d, eq-eqb _ 1 (c .before .before .if3 .left), ne-eqb _ 4 (λ e. c .if4 .taken (c .before .word .ensures ∙ e))) (refl, refl)
+    rw (short d, fitting d, eq-eqb _ 1 (c .before .before .if3 .left), ne-eqb _ 4 (λ e. c .if4 .taken (c .before .word .ensures ∙ e))) (refuses refl refl)
 
 returns-5 : tie.Need-returns-5
 unfolding headAt
 returns-5 c = λ es bs cs.
     let e = fourth (c .before) in
     let d = second e in
-    rw (short d, fitting d, first e, eq-eqb _ 4 (four e), range-is (c .before) ∙ not-true _ (c .if5 .taken)) (refl, refl)
+    rw (short d, fitting d, first e, eq-eqb _ 4 (four e), range-is (c .before) ∙ not-true _ (c .if5 .taken)) (refuses refl refl)
 
 returns-6 : tie.Need-returns-6
 unfolding headAt
@@ -75,7 +76,7 @@ returns-6 c = λ es bs cs.
       range-is (c .before) ∙ not-false _ (c .if5 .left),
       ← c .before .before .before .word2 .ensures,
       ← c .before .before .word3 .ensures,
-    ) (refl, empty-tables _ _ es bs cs)
+    ) (leads refl (empty-tables _ _ es bs cs))
 
 pub head-spec : {M : Type 1} → statement M
 head-spec =

@@ -12,31 +12,29 @@ abbrev μ-loop : tie.MeasureT-loop
 μ-loop file edges₀ atoms₀ clauses₀ step₀ edges atoms clauses step = left file step
 
 loop-holds : tie.Need-loop-holds Inv-loop μ-loop
-loop-holds c = begins _ _ _ _ _ (c .head .ensures _ _ _)
+loop-holds c = begins _ (c .head .ensures _ _ _)
 
 returns : tie.Need-returns Inv-loop μ-loop
-returns c = answers-refused _ _ _ _ (c .before .before .before .loop .inv) _ (c .before .step .given .1)
+returns c = answers-refused (c .before .before .before .loop .inv) (c .before .step .given .1)
 
 returns-2 : tie.Need-returns-2 Inv-loop μ-loop
-returns-2 c = answers-accepted _ _ _ _ (c .before .before .before .loop .inv) _ (c .before .step2 .given .1)
+returns-2 c = answers-accepted (c .before .before .before .loop .inv) (c .before .step2 .given .1)
 
 take-record-requires : tie.Need-take-record-requires Inv-loop μ-loop
 take-record-requires c κs =
     let d = c .before .before .before in
-    let w = standing _ _ _ _ (d .before .before .before .loop .inv) _ _ (d .before .step3 .given .1) in
+    let w = standing (d .before .before .before .loop .inv) (d .before .step3 .given .1) in
     (w .within, room-of (w .ranged) (w .tables))
 
 loop-less : tie.Need-loop-less Inv-loop μ-loop
 loop-less c =
-    let d = c .before .before .before .before in
-    let w = standing _ _ _ _ (d .before .before .before .loop .inv) _ _ (d .before .step3 .given .1) in
-    rw (d .before .step3 .given .1) (falls w _ _ _ _ (c .take-record .ensures))
+    let d = c .before .before .before .before .before in
+    rw (d .step3 .given .1) (falls (standing (d .before .before .loop .inv) (d .step3 .given .1)) _ _ _ _ (c .take-record .ensures))
 
 loop-again : tie.Need-loop-again Inv-loop μ-loop
 loop-again c =
-    let d = c .before .before .before .before in
-    let w = standing _ _ _ _ (d .before .before .before .loop .inv) _ _ (d .before .step3 .given .1) in
-    goes-on w _ _ _ _ (c .take-record .ensures)
+    let d = c .before .before .before .before .before in
+    goes-on (standing (d .before .before .loop .inv) (d .step3 .given .1)) _ _ _ _ (c .take-record .ensures)
 
 pub read-into-spec : {M : Type 1} → statement M
 read-into-spec =

@@ -1,9 +1,9 @@
 -- `take_atom` leads where the definition does: each way out by the tests on the way to it.
-use Rattle.reader.proofs.Kit.{_≡_, refl, sym, ap, _∙_, true, List, _++_, ℕ, _+_, _*_, arith, needs, lt-ltb, le-ltb, eq-eqb, ne-eqb, not-true, not-false, ltb, eqb, take}
+use Rattle.reader.proofs.Kit.{_≡_, refl, sym, ap, _∙_, true, List, _++_, ℕ, _+_, _*_, arith, needs, lt-ltb, le-ltb, eq-eqb, ne-eqb, eqb-true, not-true, not-false, ltb, eqb, take}
 use Rattle.plan.specs.Meaning.{Atom}
 use Rattle.plan.specs.declared.Plan as counted
-use Rattle.reader.specs.Format.{lenAt, word, atomIn, atomOk}
-use Rattle.reader.specs.Filling.{lastIs, atomRow}
+use Rattle.reader.specs.Format.{lenAt, after, word, atomIn, atomOk}
+use Rattle.reader.specs.Filling.{refuses, leads, lastIs, atomRow}
 use Rattle.reader.proofs.Steps.{atom-step, atom-tables}
 use Rattle.reader.proofs.records.take_atom.Statement.{statement}
 use Rattle.reader.proofs.records.take_atom.Tie as tie
@@ -25,11 +25,11 @@ module _ (c : tie.After-atom-ok) where
   abbrev others : List ℕ
   others = take (counts .edges * 3) (entry .args .edges .now)
 
-  len-is : lenAt file at ≡ 9
-  len-is = sym (c .before .before .before .word .ensures) ∙ c .before .before .if1 .left
-
   long : eqb (lenAt file at) 9 ≡ true
-  long = eq-eqb _ 9 len-is
+  long = eq-eqb _ 9 (sym (c .before .before .before .word .ensures) ∙ c .before .before .if1 .left)
+
+  behind : after file at ≡ at + 12
+  behind = omega (arith, eqb-true (lenAt file at) 9 long)
 
   ranged : atomOk (counts .nodes) (counts .variables) (atomIn file at) ≡ c .atom-ok .result
   ranged = sym (c .atom-ok .ensures ∙ ap (atomOk _ _) (c .before .atom-in .ensures))
@@ -50,21 +50,21 @@ module _ (c : tie.After-uses) where
 returns : tie.Need-returns
 returns c = λ cs p t.
     let a = c .before .before .before .args in
-    rw (atom-step (a .file .now) (a .at) t, ne-eqb _ 9 (λ e. c .if1 .taken (c .before .word .ensures ∙ e))) (refl, refl)
+    rw (atom-step (a .file .now) (a .at) t, ne-eqb _ 9 (λ e. c .if1 .taken (c .before .word .ensures ∙ e))) (refuses refl refl)
 
 returns-2 : tie.Need-returns-2
-returns-2 c = λ cs p t. let d = c .before in rw (atom-step (file d) (at d) t, long d, ranged d ∙ not-true _ (c .if2 .taken)) (refl, refl)
+returns-2 c = λ cs p t. let d = c .before in rw (atom-step (file d) (at d) t, long d, ranged d ∙ not-true _ (c .if2 .taken)) (refuses refl refl)
 
 returns-3 : tie.Need-returns-3
 returns-3 c = λ cs p t.
     let d = c .before .before in
-    rw (atom-step (file d) (at d) t, long d, ranged d ∙ not-false _ (c .before .if2 .left), le-ltb _ 64 (c .if3 .taken)) (refl, refl)
+    rw (atom-step (file d) (at d) t, long d, ranged d ∙ not-false _ (c .before .if2 .left), le-ltb _ 64 (c .if3 .taken)) (refuses refl refl)
 
 returns-4 : tie.Need-returns-4
 returns-4 c = λ cs p t.
     let d = c .before in
     let e = tested d in
-    rw (atom-step (file e) (at e) t, long e, passed d, room d, used d ∙ c .if4 .taken) (refl, refl)
+    rw (atom-step (file e) (at e) t, long e, passed d, room d, used d ∙ c .if4 .taken) (refuses refl refl)
 
 returns-5 : tie.Need-returns-5
 returns-5 c = λ cs p t.
@@ -72,7 +72,7 @@ returns-5 c = λ cs p t.
     let e = tested d in
     let before = take (counts e .atoms * 5) (entry e .args .atoms .now) in
     rw (atom-step (file e) (at e) t, long e, passed d, room d, used d ∙ c .before .before .if4 .left)
-    (omega (arith, len-is e), atom-tables (file e) (at e) t (c .put-atom .ensures ∙ ap (λ (x : Atom). before ++ atomRow x) (e .before .atom-in .ensures)))
+    (leads (behind e) (atom-tables (file e) (at e) t (c .put-atom .ensures ∙ ap (λ (x : Atom). before ++ atomRow x) (e .before .atom-in .ensures))))
 
 pub take-atom-spec : {M : Type 1} → statement M
 take-atom-spec =

@@ -2,6 +2,7 @@
 use Rattle.reader.proofs.Kit.{_≡_, refl, sym, ap, _∙_, true, List, ℕ, _+_, _/_, _<_, arith, needs, lt-ltb, le-ltb, lt-leb, le-leb, eq-eqb, ne-eqb, not-true, not-false, ltb, leb}
 use Rattle.plan.specs.declared.Plan as counted
 use Rattle.reader.specs.Format.{lenAt, clauseIn, clauseLen, literalsIn, literalsOk}
+use Rattle.reader.specs.Filling.{refuses, leads}
 use Rattle.reader.proofs.Steps.{clause-step, clause-tables}
 use Rattle.reader.proofs.records.take_clause.Statement.{statement}
 use Rattle.reader.proofs.records.take_clause.Tie as tie
@@ -64,31 +65,31 @@ returns : tie.Need-returns
 unfolding clauseLen
 returns c = λ es bs p t.
     let d = c .before in
-    rw (clause-step (file d) (at d) t, ← len-is d, lt-leb 2 _ (c .if1 .taken)) (refl, refl)
+    rw (clause-step (file d) (at d) t, ← len-is d, lt-leb 2 _ (c .if1 .taken)) (refuses refl refl)
 
 returns-2 : tie.Need-returns-2
 unfolding clauseLen
 returns-2 c = λ es bs p t.
     let d = c .before .before in
-    rw (clause-step (file d) (at d) t, ← len-is d, le-leb 2 _ (c .before .if1 .left), ne-eqb _ _ (c .if2 .taken)) (refl, refl)
+    rw (clause-step (file d) (at d) t, ← len-is d, le-leb 2 _ (c .before .if1 .left), ne-eqb _ _ (c .if2 .taken)) (refuses refl refl)
 
 returns-3 : tie.Need-returns-3
 returns-3 c = λ es bs p t.
     let d = c .before in
     let b = measured d in
-    rw (clause-step (file b) (at b) t, long d, ranged d ∙ not-true _ (c .if3 .taken)) (refl, refl)
+    rw (clause-step (file b) (at b) t, long d, ranged d ∙ not-true _ (c .if3 .taken)) (refuses refl refl)
 
 returns-4 : tie.Need-returns-4
 returns-4 c = λ es bs p t.
     let d = c .before .before .before in
     let b = measured d in
-    rw (clause-step (file b) (at b) t, long d, ranged d ∙ not-false _ (c .before .before .if3 .left), le-ltb _ 1024 (c .if4 .taken)) (refl, refl)
+    rw (clause-step (file b) (at b) t, long d, ranged d ∙ not-false _ (c .before .before .if3 .left), le-ltb _ 1024 (c .if4 .taken)) (refuses refl refl)
 
 returns-5 : tie.Need-returns-5
 returns-5 c = λ es bs p t.
     let d = c .before .before in
     let b = begun d in
-    rw (clause-step (file b) (at b) t, long (tested d), passed d, fewer d, ← len-is b, lt-leb _ 4096 (c .if5 .taken)) (refl, refl)
+    rw (clause-step (file b) (at b) t, long (tested d), passed d, fewer d, ← len-is b, lt-leb _ 4096 (c .if5 .taken)) (refuses refl refl)
 
 returns-6 : tie.Need-returns-6
 returns-6 c = λ es bs p t.
@@ -96,7 +97,7 @@ returns-6 c = λ es bs p t.
     let d = fourth e in
     let b = begun d in
     rw (clause-step (file b) (at b) t, long (tested d), passed d, fewer d, most e)
-    (omega (arith, len-is b), clause-tables (file b) (at b) t (ap (λ n. n / 2) (len-is b)) (c .before .before .copy-literals .ensures))
+    (leads (ap (λ n. at b + 3 + n) (sym (len-is b))) (clause-tables (file b) (at b) t (ap (λ n. n / 2) (len-is b)) (c .before .before .copy-literals .ensures)))
 
 pub take-clause-spec : {M : Type 1} → statement M
 take-clause-spec =

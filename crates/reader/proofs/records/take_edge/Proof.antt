@@ -1,9 +1,9 @@
 -- `take_edge` leads where the definition does: each way out by the tests on the way to it.
-use Rattle.reader.proofs.Kit.{_≡_, refl, sym, ap, _∙_, true, List, _++_, ℕ, _+_, _*_, arith, needs, lt-ltb, le-ltb, eq-eqb, ne-eqb, not-true, not-false, ltb, eqb, take}
+use Rattle.reader.proofs.Kit.{_≡_, refl, sym, ap, _∙_, true, List, _++_, ℕ, _+_, _*_, arith, needs, lt-ltb, le-ltb, eq-eqb, ne-eqb, eqb-true, not-true, not-false, ltb, eqb, take}
 use Rattle.plan.specs.Meaning.{Edge}
 use Rattle.plan.specs.declared.Plan as counted
-use Rattle.reader.specs.Format.{lenAt, word, edgeIn, edgeOk}
-use Rattle.reader.specs.Filling.{lastIs, edgeRow}
+use Rattle.reader.specs.Format.{lenAt, after, word, edgeIn, edgeOk}
+use Rattle.reader.specs.Filling.{refuses, leads, lastIs, edgeRow}
 use Rattle.reader.proofs.Steps.{edge-step, edge-tables}
 use Rattle.reader.proofs.records.take_edge.Statement.{statement}
 use Rattle.reader.proofs.records.take_edge.Tie as tie
@@ -25,11 +25,11 @@ module _ (c : tie.After-edge-ok) where
   abbrev others : List ℕ
   others = take (counts .atoms * 5) (entry .args .atoms .now)
 
-  len-is : lenAt file at ≡ 6
-  len-is = sym (c .before .before .before .word .ensures) ∙ c .before .before .if1 .left
-
   long : eqb (lenAt file at) 6 ≡ true
-  long = eq-eqb _ 6 len-is
+  long = eq-eqb _ 6 (sym (c .before .before .before .word .ensures) ∙ c .before .before .if1 .left)
+
+  behind : after file at ≡ at + 9
+  behind = omega (arith, eqb-true (lenAt file at) 6 long)
 
   ranged : edgeOk (counts .nodes) (counts .variables) (edgeIn file at) ≡ c .edge-ok .result
   ranged = sym (c .edge-ok .ensures ∙ ap (edgeOk _ _) (c .before .edge-in .ensures))
@@ -50,21 +50,21 @@ module _ (c : tie.After-uses) where
 returns : tie.Need-returns
 returns c = λ cs p t.
     let a = c .before .before .before .args in
-    rw (edge-step (a .file .now) (a .at) t, ne-eqb _ 6 (λ e. c .if1 .taken (c .before .word .ensures ∙ e))) (refl, refl)
+    rw (edge-step (a .file .now) (a .at) t, ne-eqb _ 6 (λ e. c .if1 .taken (c .before .word .ensures ∙ e))) (refuses refl refl)
 
 returns-2 : tie.Need-returns-2
-returns-2 c = λ cs p t. let d = c .before in rw (edge-step (file d) (at d) t, long d, ranged d ∙ not-true _ (c .if2 .taken)) (refl, refl)
+returns-2 c = λ cs p t. let d = c .before in rw (edge-step (file d) (at d) t, long d, ranged d ∙ not-true _ (c .if2 .taken)) (refuses refl refl)
 
 returns-3 : tie.Need-returns-3
 returns-3 c = λ cs p t.
     let d = c .before .before in
-    rw (edge-step (file d) (at d) t, long d, ranged d ∙ not-false _ (c .before .if2 .left), le-ltb _ 256 (c .if3 .taken)) (refl, refl)
+    rw (edge-step (file d) (at d) t, long d, ranged d ∙ not-false _ (c .before .if2 .left), le-ltb _ 256 (c .if3 .taken)) (refuses refl refl)
 
 returns-4 : tie.Need-returns-4
 returns-4 c = λ cs p t.
     let d = c .before in
     let e = tested d in
-    rw (edge-step (file e) (at e) t, long e, passed d, room d, used d ∙ c .if4 .taken) (refl, refl)
+    rw (edge-step (file e) (at e) t, long e, passed d, room d, used d ∙ c .if4 .taken) (refuses refl refl)
 
 returns-5 : tie.Need-returns-5
 returns-5 c = λ cs p t.
@@ -72,7 +72,7 @@ returns-5 c = λ cs p t.
     let e = tested d in
     let before = take (counts e .edges * 3) (entry e .args .edges .now) in
     rw (edge-step (file e) (at e) t, long e, passed d, room d, used d ∙ c .before .before .if4 .left)
-    (omega (arith, len-is e), edge-tables (file e) (at e) t (c .put-edge .ensures ∙ ap (λ (x : Edge). before ++ edgeRow x) (e .before .edge-in .ensures)))
+    (leads (behind e) (edge-tables (file e) (at e) t (c .put-edge .ensures ∙ ap (λ (x : Edge). before ++ edgeRow x) (e .before .edge-in .ensures))))
 
 pub take-edge-spec : {M : Type 1} → statement M
 take-edge-spec =

@@ -1,6 +1,7 @@
 -- `take_record` leads where the definition does, by the record's tag.
 use Rattle.reader.proofs.Kit.{_≡_, refl, sym, _∙_, true, List, ℕ, _≤_, arith, needs, ne-eqb, not-true, not-false, length}
 use Rattle.reader.specs.Format.{fits, after, stepAt}
+use Rattle.reader.specs.Filling.{Room, refuses}
 use Rattle.reader.proofs.Steps.{fits-is}
 use Rattle.reader.proofs.records.take_record.Statement.{statement}
 use Rattle.reader.proofs.records.take_record.Tie as tie
@@ -22,22 +23,16 @@ module _ (c : tie.After-shared-slice-known2) where
   within : after file at ≤ length file
   within = fits-is file at fitting
 
-take-edge-requires : tie.Need-take-edge-requires
-take-edge-requires c κs = let d = c .before .before .before in (within d, entry d .pre .1)
-
-take-atom-requires : tie.Need-take-atom-requires
-take-atom-requires c κs = let d = c .before .before .before in (within d, entry d .pre .1)
-
-take-clause-requires : tie.Need-take-clause-requires
-take-clause-requires c κs = let d = c .before .before in (within d, entry d .pre .1)
+  asked : (after file at ≤ length file) × Room (entry .args .counts)
+  asked = (within, entry .pre .1)
 
 returns : tie.Need-returns
 unfolding stepAt
-returns c = λ p t. rw (sym (c .before .record-fits .ensures) ∙ not-true _ (c .if1 .taken)) (refl, refl)
+returns c = λ p t. rw (sym (c .before .record-fits .ensures) ∙ not-true _ (c .if1 .taken)) (refuses refl refl)
 
 returns-2 : tie.Need-returns-2
 unfolding stepAt
-returns-2 c = λ p t. rw (fitting (c .before), c .match .keys1) (refl, refl)
+returns-2 c = λ p t. rw (fitting (c .before), c .match .keys1) (refuses refl refl)
 
 returns-3 : tie.Need-returns-3
 unfolding stepAt
@@ -59,7 +54,7 @@ returns-7 : tie.Need-returns-7
 unfolding stepAt
 returns-7 c = λ p t.
     let r = c .match .rest in
-    rw (fitting (c .before), ne-eqb _ 1 (r .0 .0 .0 .0 .1), ne-eqb _ 2 (r .0 .0 .0 .1), ne-eqb _ 3 (r .0 .0 .1), ne-eqb _ 4 (r .0 .1), ne-eqb _ 5 (r .1)) (refl, refl)
+    rw (fitting (c .before), ne-eqb _ 1 (r .0 .0 .0 .0 .1), ne-eqb _ 2 (r .0 .0 .0 .1), ne-eqb _ 3 (r .0 .0 .1), ne-eqb _ 4 (r .0 .1), ne-eqb _ 5 (r .1)) (refuses refl refl)
 
 pub take-record-spec : {M : Type 1} → statement M
 take-record-spec =
@@ -68,9 +63,9 @@ take-record-spec =
     (λ c κs. search needs)
     returns
     (λ c. omega (arith, within c))
-    take-edge-requires
-    take-atom-requires
-    take-clause-requires
+    (λ c κs. asked (c .before .before .before))
+    (λ c κs. asked (c .before .before .before))
+    (λ c κs. asked (c .before .before))
     (λ c κs. within (c .before))
     returns-2
     returns-3
