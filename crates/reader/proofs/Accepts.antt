@@ -1,8 +1,8 @@
 -- An accepted plan is in range.
 -- Assumes nothing.
-use Rattle.reader.proofs.Kit.{_≡_, refl, sym, ap, _∙_, subst, _⊎_, inl, inr, ⊎-elim, Bool, true, false, _&&_, _||_, false≢true, List, [], _∷_, _++_, List·Memᴰ, List·Memᴰ·not-nil, List·Memᴰ·cases-cons, List·Memᴰ·append-cases, List·Memᴰ·eq-of-singleton, ℕ, zero, suc, _+_, _/_, _<_, _≤_, arith, eq-eqb, ltb-true, leb-true, eqb-true, ltb, leb, eqb, ℤ, natAbs, length}
+use Rattle.reader.proofs.Kit.{_≡_, refl, sym, ap, _∙_, subst, _⊎_, inl, inr, ⊎-elim, Bool, true, false, _&&_, _||_, or-true, false≢true, List, [], _∷_, _++_, List·Memᴰ, List·Memᴰ·not-nil, List·Memᴰ·cases-cons, List·Memᴰ·append-cases, List·Memᴰ·eq-of-singleton, ℕ, zero, suc, _+_, _/_, _<_, _≤_, arith, eq-eqb, ltb-true, leb-true, eqb-true, ltb, leb, eqb, ℤ, natAbs, length}
 use Rattle.plan.specs.Meaning.{Edge, Atom, PlanFile}
-use Rattle.reader.specs.Format.{Step, refuse, next, done, Reading, refused, accepted, onward, word, lenAt, headOk, endsOk, kindOk, literalOk, literalsOk, edgeUses, atomUses, edgeIn, atomIn, clauseIn, addEdge, addAtom, addClause, emptyPlan, stepAt, headAt, records, readPlan}
+use Rattle.reader.specs.Format.{Step, refuse, next, done, Reading, refused, accepted, onward, word, lenAt, headOk, endsOk, kindOk, literalOk, literalsOk, serves, edgeUses, atomUses, edgeIn, atomIn, clauseIn, addEdge, addAtom, addClause, emptyPlan, stepAt, headAt, records, readPlan}
 use Rattle.plan.specs.Ranged.{maxBound, literals, EndsFit, LiteralFits, Ranged}
 use Rattle.reader.proofs.Cases.{both, head-by, step-by, edge-by, atom-by, clause-by}
 use Rattle.reader.proofs.Rows.{count-clause, length-snoc, literals-length}
@@ -39,31 +39,16 @@ literals-fit v (x ∷ c) h l m =
     let d = both (literalOk v x) (literalsOk v c) h in
     ⊎-elim (λ (e : l ≡ x). literal-fits v l (ap (literalOk v) e ∙ d .0)) (λ (n : List·Memᴰ l c). literals-fit v c (d .1) l n) (List·Memᴰ·cases-cons m)
 
--- a use that is denied
-or-left : (a b : Bool) → (a || b) ≡ false → a ≡ false
-or-left true b h = h
-or-left false b h = refl
+-- a member's variable is found
+served : {A : Type 0} (variable : A → ℕ) (xs : List A) (x : A) → List·Memᴰ x xs → serves variable xs (variable x) ≡ true
+unfolding serves
+served variable [] x m = absurd (List·Memᴰ·not-nil m)
+served variable (y ∷ xs) x m =
+    ⊎-elim (λ (e : x ≡ y). ap (λ b. b || serves variable xs (variable x)) (eq-eqb _ _ (ap variable (sym e))))
+    (λ (n : List·Memᴰ x xs). ap (λ b. eqb (variable y) (variable x) || b) (served variable xs x n) ∙ or-true (eqb (variable y) (variable x))) (List·Memᴰ·cases-cons m)
 
-or-right : (a b : Bool) → (a || b) ≡ false → b ≡ false
-or-right true b h = absurd (false≢true (sym h))
-or-right false b h = h
-
-never : (a b : ℕ) → eqb a b ≡ false → a ≡ b → ⊥
-never a b h e = false≢true (sym h ∙ eq-eqb a b e)
-
-no-edge : (es : List Edge) (v : ℕ) → edgeUses es v ≡ false → (e : Edge) → List·Memᴰ e es → e .variable ≡ v → ⊥
-unfolding edgeUses
-no-edge [] v h e m q = List·Memᴰ·not-nil m
-no-edge (d ∷ es) v h e m q =
-    ⊎-elim (λ (w : e ≡ d). never (d .variable) v (or-left (eqb (d .variable) v) (edgeUses es v) h) (ap (λ (x : Edge). x .variable) (sym w) ∙ q))
-    (λ (n : List·Memᴰ e es). no-edge es v (or-right (eqb (d .variable) v) (edgeUses es v) h) e n q) (List·Memᴰ·cases-cons m)
-
-no-atom : (bs : List Atom) (v : ℕ) → atomUses bs v ≡ false → (a : Atom) → List·Memᴰ a bs → a .variable ≡ v → ⊥
-unfolding atomUses
-no-atom [] v h e m q = List·Memᴰ·not-nil m
-no-atom (d ∷ bs) v h e m q =
-    ⊎-elim (λ (w : e ≡ d). never (d .variable) v (or-left (eqb (d .variable) v) (atomUses bs v) h) (ap (λ (x : Atom). x .variable) (sym w) ∙ q))
-    (λ (n : List·Memᴰ e bs). no-atom bs v (or-right (eqb (d .variable) v) (atomUses bs v) h) e n q) (List·Memᴰ·cases-cons m)
+unserved : {A : Type 0} (variable : A → ℕ) (xs : List A) (v : ℕ) → serves variable xs v ≡ false → (x : A) → List·Memᴰ x xs → variable x ≡ v → ⊥
+unserved variable xs v h x m e = false≢true (sym h ∙ ap (serves variable xs) (sym e) ∙ served variable xs x m)
 
 -- a fact of the members, with one more at the end
 snoc : {A : Type 0} (P : A → Type 0) (xs : List A) (x : A) → ((a : A) → List·Memᴰ a xs → P a) → P x → (a : A) → List·Memᴰ a (xs ++ (x ∷ [])) → P a
@@ -87,7 +72,7 @@ module _ (p : PlanFile) (r : Ranged p) where
     clause = r .clause;
     literal = r .literal;
     apart = snoc (λ (x : Edge). (a : Atom) → List·Memᴰ a (p .atoms) → x .variable ≡ a .variable → ⊥) (p .edges) e (r .apart)
-        (λ a m q. no-atom (p .atoms) (e .variable) free a m (sym q));
+        (λ a m q. unserved _ (p .atoms) (e .variable) free a m (sym q));
   }
 
   with-atom : (a : Atom) → (kindOk (a .kind) (a .bound) && endsOk (p .nodes) (p .variables) (a .from) (a .to) (a .variable)) ≡ true
@@ -109,7 +94,7 @@ module _ (p : PlanFile) (r : Ranged p) where
             (kind-fits (a .kind) (a .bound) (d .0));
         clause = r .clause;
         literal = r .literal;
-        apart = λ e m. snoc (λ (x : Atom). e .variable ≡ x .variable → ⊥) (p .atoms) a (r .apart e m) (no-edge (p .edges) (a .variable) free e m);
+        apart = λ e m. snoc (λ (x : Atom). e .variable ≡ x .variable → ⊥) (p .atoms) a (r .apart e m) (unserved _ (p .edges) (a .variable) free e m);
       }
 
   with-clause : (c : List ℤ) → 1 ≤ length c → literalsOk (p .variables) c ≡ true → length (p .clauses) < 1024

@@ -61,15 +61,14 @@ read-step f at p w =
     (step-ahead f at p)
 
 counts-same : (p : PlanFile) (c d : counted.Plan) (es bs es′ bs′ : List ℕ) (cs cs′ : List ℤ) → Tables p c es bs cs → Tables p d es′ bs′ cs′ → c ≡ d
-counts-same p c d es bs es′ bs′ cs cs′ t u =
-    let a : c .nodes ≡ d .nodes = sym (t .nodes) ∙ u .nodes in
-    let b : c .variables ≡ d .variables = sym (t .variables) ∙ u .variables in
-    let e : c .edges ≡ d .edges = sym (t .edges .count) ∙ u .edges .count in
-    let g : c .atoms ≡ d .atoms = sym (t .atoms .count) ∙ u .atoms .count in
-    let h : c .clauses ≡ d .clauses = sym (t .clauses .count) ∙ u .clauses .count in
-    let k : c .literals ≡ d .literals = sym (t .literals) ∙ u .literals in
-    let z : _≡_ {A = counted.Plan} (record { nodes = c .nodes; variables = c .variables; edges = c .edges; atoms = c .atoms; clauses = c .clauses; literals = c .literals })
-    (record { nodes = d .nodes; variables = d .variables; edges = d .edges; atoms = d .atoms; clauses = d .clauses; literals = d .literals }) = cc in z
+counts-same p c d es bs es′ bs′ cs cs′ t u = λ i. record {
+  nodes = (sym (t .nodes) ∙ u .nodes) i;
+  variables = (sym (t .variables) ∙ u .variables) i;
+  edges = (sym (t .edges .count) ∙ u .edges .count) i;
+  atoms = (sym (t .atoms .count) ∙ u .atoms .count) i;
+  clauses = (sym (t .clauses .count) ∙ u .clauses .count) i;
+  literals = (sym (t .literals) ∙ u .literals) i;
+}
 
 -- no second answer fits
 pub one-answer : (q : Reading) (r s : ReadAnswer) (es bs es′ bs′ : List ℕ) (cs cs′ : List ℤ) → Answers q r es bs cs → Answers q s es′ bs′ cs′ → r ≡ s

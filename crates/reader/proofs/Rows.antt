@@ -5,7 +5,7 @@ use lib.Seq.{take-suc-set, append-snoc, getD-drop, getD-take, drop-drop, length-
 use Rattle.plan.specs.Meaning.{Edge, Atom}
 use Rattle.plan.specs.Ranged.{literals}
 use Rattle.plan.specs.Written.{flat}
-use Rattle.reader.specs.Format.{word, twos, literalsIn, literalsOk, literalOk, edgeUses, atomUses}
+use Rattle.reader.specs.Format.{word, twos, literalsIn, literalsOk, literalOk, serves, edgeUses, atomUses}
 use Rattle.reader.specs.Filling.{lastIs, rowsOf, edgeRow, atomRow}
 
 -- one more element behind what stands there
@@ -93,12 +93,12 @@ module _ (t : List ℕ) (u v n i : ℕ) (h : u ≤ length t) where
     uses-miss e = uses-step ∙ ap (λ b. b || behind (i + n + 1)) (ne-eqb _ _ e)
 
 pub uses-edges : (es : List Edge) (v : ℕ) → lastIs 2 2 (rowsOf edgeRow es) v ≡ edgeUses es v
-unfolding lastIs rowsOf edgeUses
+unfolding lastIs rowsOf serves
 uses-edges [] v = refl
 uses-edges (e ∷ es) v = ap (λ b. eqb (e .variable) v || b) (uses-edges es v)
 
 pub uses-atoms : (bs : List Atom) (v : ℕ) → lastIs 4 4 (rowsOf atomRow bs) v ≡ atomUses bs v
-unfolding lastIs rowsOf atomUses
+unfolding lastIs rowsOf serves
 uses-atoms [] v = refl
 uses-atoms (a ∷ bs) v = ap (λ b. eqb (a .variable) v || b) (uses-atoms bs v)
 
