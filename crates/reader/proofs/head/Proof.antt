@@ -37,18 +37,10 @@ module _ (c : tie.After-head-ok) where
   range-is : headOk (word (file (second fourth)) 3) (word (file (second fourth)) 5) ≡ c .head-ok .result
   range-is = sym (c .head-ok .ensures ∙ simp (c .before .before .word2 .ensures, c .before .word3 .ensures))
 
-returns : tie.Need-returns
-unfolding headAt
-returns c = λ es bs cs. rw (lt-leb _ 16384 (c .if1 .taken)) (refuses refl refl)
-
 returns-2 : tie.Need-returns-2
 unfolding headAt
 returns-2 c = λ es bs cs.
     rw (le-leb _ 16384 (c .before .before .if1 .left), sym (c .before .record-fits .ensures) ∙ not-true _ (c .if2 .taken)) (refuses refl refl)
-
-returns-3 : tie.Need-returns-3
-unfolding headAt
-returns-3 c = λ es bs cs. let d = c .before .before in rw (short d, fitting d, ne-eqb _ 1 (c .if3 .taken)) (refuses refl refl)
 
 returns-4 : tie.Need-returns-4
 unfolding headAt
@@ -79,14 +71,15 @@ returns-6 c = λ es bs cs.
     ) (leads refl (empty-tables _ _ es bs cs))
 
 pub head-spec : {M : Type 1} → statement M
+unfolding headAt
 head-spec =
     tie.close
     (tie.spec
-    returns
+    (λ c es bs cs. rw (lt-leb _ 16384 (c .if1 .taken)) (refuses refl refl))
     (λ c κs. search needs)
     returns-2
     (λ c. omega (arith, within (c .before)))
-    returns-3
+    (λ c es bs cs. let d = c .before .before in rw (short d, fitting d, ne-eqb _ 1 (c .if3 .taken)) (refuses refl refl))
     (λ c κs. omega (arith, within (c .before .before)))
     returns-4
     (λ c κs. omega (arith, within (second c), four c))

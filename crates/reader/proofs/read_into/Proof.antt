@@ -11,15 +11,6 @@ Inv-loop file edges₀ atoms₀ clauses₀ step₀ edges atoms clauses step = Re
 abbrev μ-loop : tie.MeasureT-loop
 μ-loop file edges₀ atoms₀ clauses₀ step₀ edges atoms clauses step = left file step
 
-loop-holds : tie.Need-loop-holds Inv-loop μ-loop
-loop-holds c = begins _ (c .head .ensures _ _ _)
-
-returns : tie.Need-returns Inv-loop μ-loop
-returns c = answers-refused (c .before .before .before .loop .inv) (c .before .step .given .1)
-
-returns-2 : tie.Need-returns-2 Inv-loop μ-loop
-returns-2 c = answers-accepted (c .before .before .before .loop .inv) (c .before .step2 .given .1)
-
 take-record-requires : tie.Need-take-record-requires Inv-loop μ-loop
 take-record-requires c κs =
     let d = c .before .before .before in
@@ -43,11 +34,11 @@ read-into-spec =
     Inv-loop
     μ-loop
     (λ c κs. search needs)
-    loop-holds
+    (λ c. begins _ (c .head .ensures _ _ _))
     (λ c. search needs)
-    returns
+    (λ c. answers-refused (c .before .before .before .loop .inv) (c .before .step .given .1))
     (λ c. search needs)
-    returns-2
+    (λ c. answers-accepted (c .before .before .before .loop .inv) (c .before .step2 .given .1))
     (λ c. search needs)
     take-record-requires
     loop-less

@@ -1,3 +1,4 @@
+-- `copy_literals` writes the literals and a 0: those written and those left are all of them.
 use Rattle.reader.proofs.Kit.{_≡_, refl, sym, ap, _∙_, List, _∷_, _++_, append-nil, ℕ, _+_, _-_, _*_, _<_, arith, needs, ℤ, pos, length, take, length-set}
 use lib.Seq.{append-snoc}
 use mir.Facts.{toZ-ofZ}

@@ -52,9 +52,6 @@ returns c = λ cs p t.
     let a = c .before .before .before .args in
     rw (edge-step (a .file .now) (a .at) t, ne-eqb _ 6 (λ e. c .if1 .taken (c .before .word .ensures ∙ e))) (refuses refl refl)
 
-returns-2 : tie.Need-returns-2
-returns-2 c = λ cs p t. let d = c .before in rw (edge-step (file d) (at d) t, long d, ranged d ∙ not-true _ (c .if2 .taken)) (refuses refl refl)
-
 returns-3 : tie.Need-returns-3
 returns-3 c = λ cs p t.
     let d = c .before .before in
@@ -83,7 +80,7 @@ take-edge-spec =
     returns
     (λ c κs. search needs)
     (λ c κs. search needs)
-    returns-2
+    (λ c cs p t. let d = c .before in rw (edge-step (file d) (at d) t, long d, ranged d ∙ not-true _ (c .if2 .taken)) (refuses refl refl))
     returns-3
     (λ c. search needs)
     (λ c κs. search needs)

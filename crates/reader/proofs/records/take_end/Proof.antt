@@ -5,17 +5,6 @@ use Rattle.reader.specs.Filling.{refuses, ends}
 use Rattle.reader.proofs.records.take_end.Statement.{statement}
 use Rattle.reader.proofs.records.take_end.Tie as tie
 
-returns : tie.Need-returns
-unfolding endAt
-returns c = λ es bs cs p t. rw (ne-eqb _ 0 (λ e. c .if1 .taken (c .before .word .ensures ∙ e))) (refuses refl refl)
-
-returns-2 : tie.Need-returns-2
-unfolding endAt
-returns-2 c = λ es bs cs p t. rw (eq-eqb _ 0 (sym (c .before .before .word .ensures) ∙ c .before .if1 .left), ne-eqb _ _ (c .if2 .taken)) (refuses refl refl)
-
-returns-3 : tie.Need-returns-3
-unfolding endAt
-returns-3 c = λ es bs cs p t. rw (eq-eqb _ 0 (sym (c .before .before .word .ensures) ∙ c .before .if1 .left), eq-eqb _ _ (c .if2 .left)) (ends t)
-
 pub take-end-spec : {M : Type 1} → statement M
-take-end-spec = tie.close (tie.spec (λ c. search needs) (λ c κs. search needs) returns (λ c. search needs) returns-2 returns-3)
+unfolding endAt
+take-end-spec = tie.close (tie.spec (λ c. search needs) (λ c κs. search needs) (λ c es bs cs p t. rw (ne-eqb _ 0 (λ e. c .if1 .taken (c .before .word .ensures ∙ e))) (refuses refl refl)) (λ c. search needs) (λ c es bs cs p t. rw (eq-eqb _ 0 (sym (c .before .before .word .ensures) ∙ c .before .if1 .left), ne-eqb _ _ (c .if2 .taken)) (refuses refl refl)) (λ c es bs cs p t. rw (eq-eqb _ 0 (sym (c .before .before .word .ensures) ∙ c .before .if1 .left), eq-eqb _ _ (c .if2 .left)) (ends t)))

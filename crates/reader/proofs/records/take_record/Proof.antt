@@ -26,30 +26,6 @@ module _ (c : tie.After-shared-slice-known2) where
   asked : (after file at ≤ length file) × Room (entry .args .counts)
   asked = (within, entry .pre .1)
 
-returns : tie.Need-returns
-unfolding stepAt
-returns c = λ p t. rw (sym (c .before .record-fits .ensures) ∙ not-true _ (c .if1 .taken)) (refuses refl refl)
-
-returns-2 : tie.Need-returns-2
-unfolding stepAt
-returns-2 c = λ p t. rw (fitting (c .before), c .match .keys1) (refuses refl refl)
-
-returns-3 : tie.Need-returns-3
-unfolding stepAt
-returns-3 c = λ p t. let d = c .before .before .before in rw (fitting (d .before), d .match .keys2) (c .take-edge .ensures _ p t)
-
-returns-4 : tie.Need-returns-4
-unfolding stepAt
-returns-4 c = λ p t. let d = c .before .before .before in rw (fitting (d .before), d .match .keys3) (c .take-atom .ensures _ p t)
-
-returns-5 : tie.Need-returns-5
-unfolding stepAt
-returns-5 c = λ p t. let d = c .before .before in rw (fitting (d .before), d .match .keys4) (c .take-clause .ensures _ _ p t)
-
-returns-6 : tie.Need-returns-6
-unfolding stepAt
-returns-6 c = λ p t. let d = c .before in rw (fitting (d .before), d .match .keys5) (c .take-end .ensures _ _ _ p t)
-
 returns-7 : tie.Need-returns-7
 unfolding stepAt
 returns-7 c = λ p t.
@@ -57,19 +33,20 @@ returns-7 c = λ p t.
     rw (fitting (c .before), ne-eqb _ 1 (r .0 .0 .0 .0 .1), ne-eqb _ 2 (r .0 .0 .0 .1), ne-eqb _ 3 (r .0 .0 .1), ne-eqb _ 4 (r .0 .1), ne-eqb _ 5 (r .1)) (refuses refl refl)
 
 pub take-record-spec : {M : Type 1} → statement M
+unfolding stepAt
 take-record-spec =
     tie.close
     (tie.spec
     (λ c κs. search needs)
-    returns
+    (λ c p t. rw (sym (c .before .record-fits .ensures) ∙ not-true _ (c .if1 .taken)) (refuses refl refl))
     (λ c. omega (arith, within c))
     (λ c κs. asked (c .before .before .before))
     (λ c κs. asked (c .before .before .before))
     (λ c κs. asked (c .before .before))
     (λ c κs. within (c .before))
-    returns-2
-    returns-3
-    returns-4
-    returns-5
-    returns-6
+    (λ c p t. rw (fitting (c .before), c .match .keys1) (refuses refl refl))
+    (λ c p t. let d = c .before .before .before in rw (fitting (d .before), d .match .keys2) (c .take-edge .ensures _ p t))
+    (λ c p t. let d = c .before .before .before in rw (fitting (d .before), d .match .keys3) (c .take-atom .ensures _ p t))
+    (λ c p t. let d = c .before .before in rw (fitting (d .before), d .match .keys4) (c .take-clause .ensures _ _ p t))
+    (λ c p t. let d = c .before in rw (fitting (d .before), d .match .keys5) (c .take-end .ensures _ _ _ p t))
     returns-7)

@@ -22,9 +22,6 @@ loop-again c =
     let l = c .before .before .before .loop in
     (omega arith, sym (sym (l .inv .1) ∙ uses-miss _ _ _ _ (l .row) (omega arith) (c .before .before .loop-test .taken) (c .if1 .left)))
 
-returns-2 : tie.Need-returns-2 Inv-loop μ-loop
-returns-2 c = sym (uses-end _ _ _ _ (c .before .loop .row) (omega arith) (c .loop-test .left)) ∙ c .before .loop .inv .1
-
 pub uses-spec : {M : Type 1} → statement M
 uses-spec =
     tie.close
@@ -40,4 +37,4 @@ uses-spec =
     (λ c. omega arith)
     (λ c. omega arith)
     loop-again
-    returns-2)
+    (λ c. sym (uses-end _ _ _ _ (c .before .loop .row) (omega arith) (c .loop-test .left)) ∙ c .before .loop .inv .1))
