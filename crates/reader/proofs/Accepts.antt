@@ -1,24 +1,13 @@
 -- An accepted plan is in range.
 -- Assumes nothing.
-use mathlib.Core.Path.{_≡_, refl, sym, ap, _∙_, subst}
-use mathlib.Core.Logic.{_⊎_, inl, inr, ⊎-elim}
-use mathlib.Core.Bool.{Bool, true, false, not, _&&_, _||_, and-eq-true-iff, false≢true}
-use mathlib.Core.List.{List, [], _∷_, _++_, List·Memᴰ, List·Memᴰ·not-nil, List·Memᴰ·cases-cons, List·Memᴰ·append-cases, List·Memᴰ·eq-of-singleton}
-use Prim.Native.Nat.{ℕ, zero, suc, _+_, _*_, _/_, _<_, _≤_}
-use native.Mathlib.Omega.{arith}
-use borrow.Author.Tests.{ltb-true, leb-true, eqb-true, eq-eqb, not-true}
-use lib.Dec.{ltb, leb, eqb}
-use lib.IntN.{ℤ, natAbs}
-use lib.ListN.{length}
+use Rattle.reader.proofs.Kit.{_≡_, refl, sym, ap, _∙_, subst, _⊎_, inl, inr, ⊎-elim, Bool, true, false, _&&_, _||_, or-true, false≢true, List, [], _∷_, _++_, List·Memᴰ, List·Memᴰ·not-nil, List·Memᴰ·cases-cons, List·Memᴰ·append-cases, List·Memᴰ·eq-of-singleton, ℕ, zero, suc, _+_, _/_, _<_, _≤_, arith, eq-eqb, ltb-true, leb-true, eqb-true, ltb, leb, eqb, ℤ, natAbs, length}
 use Rattle.plan.specs.Meaning.{Edge, Atom, PlanFile}
-use Rattle.reader.specs.Format.{Step, refuse, next, done, Reading, refused, accepted, check, pick, onward, word, tagAt, lenAt, fits, headOk, endsOk, kindOk, edgeOk, atomOk, literalOk, literalsOk, clauseLen, edgeUses, atomUses, edgeIn, atomIn, clauseIn, addEdge, addAtom, addClause, emptyPlan, edgeAt, atomAt, clauseAt, endAt, stepAt, headAt, records, readPlan}
+use Rattle.reader.specs.Format.{Step, refuse, next, done, Reading, refused, accepted, onward, word, lenAt, headOk, endsOk, kindOk, literalOk, literalsOk, serves, edgeUses, atomUses, edgeIn, atomIn, clauseIn, addEdge, addAtom, addClause, emptyPlan, stepAt, headAt, records, readPlan}
 use Rattle.plan.specs.Ranged.{maxBound, literals, EndsFit, LiteralFits, Ranged}
+use Rattle.reader.proofs.Cases.{both, head-by, step-by, edge-by, atom-by, clause-by}
 use Rattle.reader.proofs.Rows.{count-clause, length-snoc, literals-length}
 
 -- the tests, taken apart
-both : (a b : Bool) → (a && b) ≡ true → (a ≡ true) × (b ≡ true)
-both a b h = and-eq-true-iff a b .0 h
-
 either : (a b : Bool) → (a || b) ≡ true → (a ≡ true) ⊎ (b ≡ true)
 either true b h = inl refl
 either false b h = inr h
@@ -50,31 +39,16 @@ literals-fit v (x ∷ c) h l m =
     let d = both (literalOk v x) (literalsOk v c) h in
     ⊎-elim (λ (e : l ≡ x). literal-fits v l (ap (literalOk v) e ∙ d .0)) (λ (n : List·Memᴰ l c). literals-fit v c (d .1) l n) (List·Memᴰ·cases-cons m)
 
--- a use that is denied
-or-left : (a b : Bool) → (a || b) ≡ false → a ≡ false
-or-left true b h = h
-or-left false b h = refl
+-- a member's variable is found
+served : {A : Type 0} (variable : A → ℕ) (xs : List A) (x : A) → List·Memᴰ x xs → serves variable xs (variable x) ≡ true
+unfolding serves
+served variable [] x m = absurd (List·Memᴰ·not-nil m)
+served variable (y ∷ xs) x m =
+    ⊎-elim (λ (e : x ≡ y). ap (λ b. b || serves variable xs (variable x)) (eq-eqb _ _ (ap variable (sym e))))
+    (λ (n : List·Memᴰ x xs). ap (λ b. eqb (variable y) (variable x) || b) (served variable xs x n) ∙ or-true (eqb (variable y) (variable x))) (List·Memᴰ·cases-cons m)
 
-or-right : (a b : Bool) → (a || b) ≡ false → b ≡ false
-or-right true b h = absurd (false≢true (sym h))
-or-right false b h = h
-
-never : (a b : ℕ) → eqb a b ≡ false → a ≡ b → ⊥
-never a b h e = false≢true (sym h ∙ eq-eqb a b e)
-
-no-edge : (es : List Edge) (v : ℕ) → edgeUses es v ≡ false → (e : Edge) → List·Memᴰ e es → e .variable ≡ v → ⊥
-unfolding edgeUses
-no-edge [] v h e m q = List·Memᴰ·not-nil m
-no-edge (d ∷ es) v h e m q =
-    ⊎-elim (λ (w : e ≡ d). never (d .variable) v (or-left (eqb (d .variable) v) (edgeUses es v) h) (ap (λ (x : Edge). x .variable) (sym w) ∙ q))
-    (λ (n : List·Memᴰ e es). no-edge es v (or-right (eqb (d .variable) v) (edgeUses es v) h) e n q) (List·Memᴰ·cases-cons m)
-
-no-atom : (bs : List Atom) (v : ℕ) → atomUses bs v ≡ false → (a : Atom) → List·Memᴰ a bs → a .variable ≡ v → ⊥
-unfolding atomUses
-no-atom [] v h e m q = List·Memᴰ·not-nil m
-no-atom (d ∷ bs) v h e m q =
-    ⊎-elim (λ (w : e ≡ d). never (d .variable) v (or-left (eqb (d .variable) v) (atomUses bs v) h) (ap (λ (x : Atom). x .variable) (sym w) ∙ q))
-    (λ (n : List·Memᴰ e bs). no-atom bs v (or-right (eqb (d .variable) v) (atomUses bs v) h) e n q) (List·Memᴰ·cases-cons m)
+unserved : {A : Type 0} (variable : A → ℕ) (xs : List A) (v : ℕ) → serves variable xs v ≡ false → (x : A) → List·Memᴰ x xs → variable x ≡ v → ⊥
+unserved variable xs v h x m e = false≢true (sym h ∙ ap (serves variable xs) (sym e) ∙ served variable xs x m)
 
 -- a fact of the members, with one more at the end
 snoc : {A : Type 0} (P : A → Type 0) (xs : List A) (x : A) → ((a : A) → List·Memᴰ a xs → P a) → P x → (a : A) → List·Memᴰ a (xs ++ (x ∷ [])) → P a
@@ -98,7 +72,7 @@ module _ (p : PlanFile) (r : Ranged p) where
     clause = r .clause;
     literal = r .literal;
     apart = snoc (λ (x : Edge). (a : Atom) → List·Memᴰ a (p .atoms) → x .variable ≡ a .variable → ⊥) (p .edges) e (r .apart)
-        (λ a m q. no-atom (p .atoms) (e .variable) free a m (sym q));
+        (λ a m q. unserved _ (p .atoms) (e .variable) free a m (sym q));
   }
 
   with-atom : (a : Atom) → (kindOk (a .kind) (a .bound) && endsOk (p .nodes) (p .variables) (a .from) (a .to) (a .variable)) ≡ true
@@ -120,7 +94,7 @@ module _ (p : PlanFile) (r : Ranged p) where
             (kind-fits (a .kind) (a .bound) (d .0));
         clause = r .clause;
         literal = r .literal;
-        apart = λ e m. snoc (λ (x : Atom). e .variable ≡ x .variable → ⊥) (p .atoms) a (r .apart e m) (no-edge (p .edges) (a .variable) free e m);
+        apart = λ e m. snoc (λ (x : Atom). e .variable ≡ x .variable → ⊥) (p .atoms) a (r .apart e m) (unserved _ (p .edges) (a .variable) free e m);
       }
 
   with-clause : (c : List ℤ) → 1 ≤ length c → literalsOk (p .variables) c ≡ true → length (p .clauses) < 1024
@@ -143,7 +117,7 @@ module _ (p : PlanFile) (r : Ranged p) where
   }
 
 -- what a step, a reading, leads to is in range
-Good : Step → Type 0
+abbrev pub Good : Step → Type 0
 Good (refuse n v) = Unit
 Good (next b p) = Ranged p
 Good (done p) = Ranged p
@@ -152,57 +126,18 @@ pub Fine : Reading → Type 0
 Fine (refused n v) = Unit
 Fine (accepted p) = Ranged p
 
-if-held : (b : Bool) (n v : ℕ) (s : Step) → (b ≡ true → Good s) → Good (check b n v s)
-unfolding Good
-if-held true n v s g = g refl
-if-held false n v s g = tt
-
-one-of : (b : Bool) (s u : Step) → Good s → Good u → Good (pick b s u)
-one-of true s u g h = g
-one-of false s u g h = h
-
-module _ (f : List ℕ) (at : ℕ) (p : PlanFile) (r : Ranged p) where
-  edge-good : Good (edgeAt f at p)
-  unfolding Good edgeAt
-  edge-good =
-      if-held (eqb (lenAt f at) 6) _ _ _ (λ l. if-held (edgeOk (p .nodes) (p .variables) (edgeIn f at)) _ _ _ (λ ok.
-      if-held (ltb (length (p .edges)) 256) _ _ _ (λ room. if-held (not (atomUses (p .atoms) (word f (at + 7)))) _ _ _ (λ free.
-      with-edge p r (edgeIn f at) ok (ltb-true (length (p .edges)) 256 room) (not-true _ free)))))
-
-  atom-good : Good (atomAt f at p)
-  unfolding Good atomAt
-  atom-good =
-      if-held (eqb (lenAt f at) 9) _ _ _ (λ l. if-held (atomOk (p .nodes) (p .variables) (atomIn f at)) _ _ _ (λ ok.
-      if-held (ltb (length (p .atoms)) 64) _ _ _ (λ room. if-held (not (edgeUses (p .edges) (word f (at + 10)))) _ _ _ (λ free.
-      with-atom p r (atomIn f at) ok (ltb-true (length (p .atoms)) 64 room) (not-true _ free)))))
-
-  long-enough : (n : ℕ) → clauseLen n ≡ true → 1 ≤ n / 2
-  unfolding clauseLen
-  long-enough n h = omega (arith, leb-true 2 n (both (leb 2 n) (eqb (n / 2 * 2) n) h .0))
-
-  clause-good : Good (clauseAt f at p)
-  unfolding Good clauseAt
-  clause-good =
-      if-held (clauseLen (lenAt f at)) _ _ _ (λ l. if-held (literalsOk (p .variables) (clauseIn f at)) _ _ _ (λ ok.
-      if-held (ltb (length (p .clauses)) 1024 && leb (literals (p .clauses) + lenAt f at / 2) 4096) _ _ _ (λ room.
-      let d = both (ltb (length (p .clauses)) 1024) (leb (literals (p .clauses) + lenAt f at / 2) 4096) room in
-      let n = literals-length f (at + 3) (lenAt f at / 2) in
-      with-clause p r (clauseIn f at) (subst (λ (k : ℕ). 1 ≤ k) (sym n) (long-enough (lenAt f at) l)) ok (ltb-true _ _ (d .0))
-      (subst (λ (k : ℕ). literals (p .clauses) + k ≤ 4096) (sym n) (leb-true _ _ (d .1))))))
-
-  end-good : Good (endAt f at p)
-  unfolding Good endAt
-  end-good = if-held (eqb (lenAt f at) 0) _ _ _ (λ l. if-held (eqb (length f) (at + 3)) _ _ _ (λ e. r))
-
-  step-good : Good (stepAt f at p)
-  unfolding Good stepAt
-  step-good =
-      if-held (fits f at) _ _ _ (λ h. if-held (not (eqb (tagAt f at) 1)) _ _ _ (λ n.
-      one-of (eqb (tagAt f at) 2) _ _ edge-good (one-of (eqb (tagAt f at) 3) _ _ atom-good (one-of (eqb (tagAt f at) 4) _ _ clause-good
-      (one-of (eqb (tagAt f at) 5) _ _ end-good tt)))))
+pub step-good : (f : List ℕ) (at : ℕ) (p : PlanFile) → Ranged p → Good (stepAt f at p)
+step-good f at p r =
+    let n = literals-length f (at + 3) (lenAt f at / 2) in
+    step-by Good (λ n v. tt) f at p
+    (λ h. edge-by Good (λ n v. tt) f at p (with-edge p r (edgeIn f at)))
+    (λ h. atom-by Good (λ n v. tt) f at p (with-atom p r (atomIn f at)))
+    (λ h. clause-by Good (λ n v. tt) f at p (λ l ok room most.
+    with-clause p r (clauseIn f at) (subst (λ (k : ℕ). 1 ≤ k) (sym n) l) ok room (subst (λ (k : ℕ). literals (p .clauses) + k ≤ 4096) (sym n) most)))
+    r
 
 on-good : (g : ℕ → PlanFile → Reading) → ((b : ℕ) (p : PlanFile) → Ranged p → Fine (g b p)) → (s : Step) → Good s → Fine (onward g s)
-unfolding Good Fine
+unfolding Fine
 on-good g h (refuse n v) w = tt
 on-good g h (next b p) w = h b p w
 on-good g h (done p) w = w
@@ -235,11 +170,8 @@ empty-ranged n v h =
       apart = λ e m. absurd (List·Memᴰ·not-nil m);
     }
 
-head-good : (f : List ℕ) → Good (headAt f)
-unfolding Good headAt
-head-good f =
-    if-held (leb (length f) 16384) _ _ _ (λ a. if-held (fits f 0) _ _ _ (λ b. if-held (eqb (tagAt f 0) 1) _ _ _ (λ d. if-held (eqb (lenAt f 0) 4) _ _ _ (λ e.
-    if-held (headOk (word f 3) (word f 5)) _ _ _ (λ h. empty-ranged (word f 3) (word f 5) h)))))
+pub head-good : (f : List ℕ) → Good (headAt f)
+head-good f = head-by Good (λ n v. tt) f (λ w h. empty-ranged (word f 3) (word f 5) h)
 
 pub read-fine : (f : List ℕ) → Fine (readPlan f)
 unfolding readPlan

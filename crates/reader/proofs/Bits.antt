@@ -1,16 +1,10 @@
 -- 16-bit words as signed numbers.
 -- Assumes nothing.
-use mathlib.Core.Path.{_≡_, refl, ap, _∙_}
-use mathlib.Core.Bool.{Bool, true, false, _&&_, _||_, or-false}
-use Prim.Native.Nat.{ℕ, zero, suc, _+_, _-_, _<_, _≤_}
-use native.Mathlib.Omega.{arith}
-use lib.Dec.{ltb, leb, eqb}
-use lib.IntN.{pos, negsuc, natAbs, _-ℤ_}
+use Rattle.reader.proofs.Kit.{_≡_, refl, ap, _∙_, Bool, true, false, _&&_, ℕ, zero, suc, _+_, _-_, _<_, _≤_, arith, lt-ltb, le-ltb, lt-leb, le-leb, ltb-true, ltb-false, ltb, leb, pos, negsuc, natAbs, _-ℤ_}
 use mir.Syntax.{w16}
 use mir.Val.{SFits, ofZ, toZ}
 use mir.Facts.{toZ-ofZ}
-use borrow.Author.Tests.{lt-ltb, le-ltb, lt-leb, le-leb, ltb-true, ltb-false}
-use Rattle.reader.specs.Format.{twos, pickZ, literalOk, kindOk}
+use Rattle.reader.specs.Format.{twos, pickZ, literalOk}
 
 pub small16 : (k : ℕ) → k < 32768 → SFits w16 (pos k)
 small16 k h = record { sfits = omega arith }
@@ -51,11 +45,3 @@ high-abs variables x h =
 
 pub high-ok : (variables x : ℕ) → 32768 ≤ x → literalOk variables (twos x) ≡ ltb (65535 - x) variables
 high-ok variables x h = high-abs variables x h ∙ suc-leb (65535 - x) variables (ltb (65535 - x) variables) refl
-
-pub kind-one : (kind bound : ℕ) → kind ≡ 1 → kindOk kind bound ≡ eqb bound 0
-unfolding kindOk
-kind-one kind bound e = ap (λ (k : ℕ). (eqb k 1 && eqb bound 0) || (eqb k 2 && leb bound 255)) e ∙ or-false (eqb bound 0)
-
-pub kind-two : (kind bound : ℕ) → kind ≡ 2 → kindOk kind bound ≡ leb bound 255
-unfolding kindOk
-kind-two kind bound e = ap (λ (k : ℕ). (eqb k 1 && eqb bound 0) || (eqb k 2 && leb bound 255)) e

@@ -1,102 +1,37 @@
 -- The definition needs no count of turns, and no second answer fits the reader's contract.
 -- Assumes nothing.
-use mathlib.Core.Path.{_≡_, refl, sym, ap, _∙_, subst}
-use mathlib.Core.Bool.{Bool, true, false, not, _&&_}
-use mathlib.Core.List.{List}
-use Prim.Native.Nat.{ℕ, zero, suc, _+_, _*_, _/_, _<_, _≤_}
-use native.Mathlib.Omega.{arith}
-use borrow.Author.Tests.{eqb-true}
-use lib.Dec.{ltb, leb, eqb}
-use lib.IntN.{ℤ}
-use lib.ListN.{length, take}
+use Rattle.reader.proofs.Kit.{_≡_, refl, sym, ap, _∙_, subst, List, ℕ, zero, suc, _+_, _*_, _<_, _≤_, arith, ℤ, length, take}
 use Rattle.plan.specs.Meaning.{PlanFile}
-use Rattle.reader.specs.Format.{Step, refuse, next, done, Reading, refused, accepted, check, pick, inOrder, onward, word, tagAt, lenAt, after, fits, headOk, edgeOk, atomOk, literalsOk, clauseLen, edgeIn, atomIn, clauseIn, edgeUses, atomUses, edgeAt, atomAt, clauseAt, endAt, stepAt, headAt, records, readPlan}
+use Rattle.reader.specs.Format.{Step, refuse, next, done, Reading, refused, accepted, onward, stepAt, headAt, records, readPlan}
 use Rattle.reader.specs.Filling.{Tables, Room, Answers}
 use Rattle.plan.specs.Ranged.{maxNodes, maxVariables, maxEdges, maxAtoms, maxClauses, maxLiterals, Ranged, literals}
 use Rattle.plan.proofs.Refusals.{one-refusal}
 use Rattle.reader.proofs.Accepts.{read-ranged}
-use Rattle.reader.proofs.Steps.{fits-is}
+use Rattle.reader.proofs.Cases.{head-by, step-by, edge-by, atom-by, clause-by}
 use Rattle.plan.specs.declared.Plan as counted
 use Rattle.reader.specs.declared.ReadAnswer.{ReadAnswer}
 use Rattle.reader.specs.declared.ReadAnswer.the-variants.{Accepted, Refused}
 
 -- a step goes forward, and stays in the file
-Ahead : List ℕ → ℕ → Step → Type 0
+abbrev pub Ahead : List ℕ → ℕ → Step → Type 0
 Ahead f at (refuse n v) = Unit
 Ahead f at (next b p) = (at < b) × (b ≤ length f)
 Ahead f at (done p) = Unit
 
-if-ahead : (f : List ℕ) (at : ℕ) (b : Bool) (n v : ℕ) (s : Step) → (b ≡ true → Ahead f at s) → Ahead f at (check b n v s)
-unfolding Ahead
-if-ahead f at true n v s g = g refl
-if-ahead f at false n v s g = tt
-
-order-ahead : (f : List ℕ) (at : ℕ) (long ranged room apart : Bool) (v : ℕ) (s : Step) → Ahead f at s → Ahead f at (inOrder long ranged room apart v s)
-order-ahead f at long ranged room apart v s g =
-    if-ahead f at long _ _ _ (λ a. if-ahead f at ranged _ _ _ (λ b. if-ahead f at room _ _ _ (λ c. if-ahead f at apart _ _ _ (λ d. g))))
-
-one-ahead : (f : List ℕ) (at : ℕ) (b : Bool) (s u : Step) → Ahead f at s → Ahead f at u → Ahead f at (pick b s u)
-one-ahead f at true s u g h = g
-one-ahead f at false s u g h = h
-
-next-ahead : (f : List ℕ) (at b : ℕ) (p : PlanFile) → at < b → b ≤ length f → Ahead f at (next b p)
-unfolding Ahead
-next-ahead f at b p h k = (h, k)
-
-done-ahead : (f : List ℕ) (at : ℕ) (p : PlanFile) → Ahead f at (done p)
-unfolding Ahead
-done-ahead f at p = tt
-
-refuse-ahead : (f : List ℕ) (at n v : ℕ) → Ahead f at (refuse n v)
-unfolding Ahead
-refuse-ahead f at n v = tt
-
-module _ (f : List ℕ) (at : ℕ) (p : PlanFile) (h : after f at ≤ length f) where
-  more : at < after f at
-  more = omega arith
-
-  edge-ahead : Ahead f at (edgeAt f at p)
-  unfolding edgeAt
-  edge-ahead =
-      order-ahead f at (eqb (lenAt f at) 6) (edgeOk (p .nodes) (p .variables) (edgeIn f at)) (ltb (length (p .edges)) 256)
-      (not (atomUses (p .atoms) (word f (at + 7)))) _ _ (next-ahead f at _ _ more h)
-
-  atom-ahead : Ahead f at (atomAt f at p)
-  unfolding atomAt
-  atom-ahead =
-      order-ahead f at (eqb (lenAt f at) 9) (atomOk (p .nodes) (p .variables) (atomIn f at)) (ltb (length (p .atoms)) 64)
-      (not (edgeUses (p .edges) (word f (at + 10)))) _ _ (next-ahead f at _ _ more h)
-
-  clause-ahead : Ahead f at (clauseAt f at p)
-  unfolding clauseAt
-  clause-ahead =
-      order-ahead f at (clauseLen (lenAt f at)) (literalsOk (p .variables) (clauseIn f at))
-      (ltb (length (p .clauses)) 1024 && leb (literals (p .clauses) + lenAt f at / 2) 4096) true _ _ (next-ahead f at _ _ more h)
-
-  end-ahead : Ahead f at (endAt f at p)
-  unfolding endAt
-  end-ahead = if-ahead f at (eqb (lenAt f at) 0) _ _ _ (λ a. if-ahead f at (eqb (length f) (at + 3)) _ _ _ (λ b. done-ahead f at p))
-
-step-ahead : (f : List ℕ) (at : ℕ) (p : PlanFile) → Ahead f at (stepAt f at p)
-unfolding stepAt
+pub step-ahead : (f : List ℕ) (at : ℕ) (p : PlanFile) → Ahead f at (stepAt f at p)
 step-ahead f at p =
-    if-ahead f at (fits f at) _ _ _ (λ g. let h : after f at ≤ length f = fits-is f at g in
-    if-ahead f at (not (eqb (tagAt f at) 1)) _ _ _ (λ t.
-    one-ahead f at (eqb (tagAt f at) 2) _ _ (edge-ahead f at p h) (one-ahead f at (eqb (tagAt f at) 3) _ _ (atom-ahead f at p h)
-    (one-ahead f at (eqb (tagAt f at) 4) _ _ (clause-ahead f at p h) (one-ahead f at (eqb (tagAt f at) 5) _ _ (end-ahead f at p h) (refuse-ahead f at 4 at))))))
+    let G = Ahead f at in
+    step-by G (λ n v. tt) f at p
+    (λ h. edge-by G (λ n v. tt) f at p (λ r m a. (omega arith, h)))
+    (λ h. atom-by G (λ n v. tt) f at p (λ r m a. (omega arith, h)))
+    (λ h. clause-by G (λ n v. tt) f at p (λ l r m a. (omega arith, h)))
+    tt
 
-head-ahead : (f : List ℕ) → Ahead f 0 (headAt f)
-unfolding headAt
-head-ahead f =
-    if-ahead f 0 (leb (length f) 16384) _ _ _ (λ a. if-ahead f 0 (fits f 0) _ _ _ (λ b. if-ahead f 0 (eqb (tagAt f 0) 1) _ _ _ (λ c.
-    if-ahead f 0 (eqb (lenAt f 0) 4) _ _ _ (λ d.
-    let h : after f 0 ≤ length f = fits-is f 0 b in
-    let l : lenAt f 0 ≡ 4 = eqb-true (lenAt f 0) 4 d in
-    if-ahead f 0 (headOk (word f 3) (word f 5)) _ _ _ (λ e. next-ahead f 0 _ _ (omega arith) (omega (arith, h, l)))))))
+pub head-ahead : (f : List ℕ) → Ahead f 0 (headAt f)
+head-ahead f = head-by (Ahead f 0) (λ n v. tt) f (λ w h. (omega arith, w))
 
 on-same : (f : List ℕ) (at : ℕ) (g h : ℕ → PlanFile → Reading) → ((b : ℕ) (q : PlanFile) → at < b → b ≤ length f → g b q ≡ h b q) → (s : Step) → Ahead f at s
     → onward g s ≡ onward h s
-unfolding Ahead
 on-same f at g h e (refuse n v) a = refl
 on-same f at g h e (next b q) a = e b q (a .0) (a .1)
 on-same f at g h e (done p) a = refl
@@ -126,15 +61,14 @@ read-step f at p w =
     (step-ahead f at p)
 
 counts-same : (p : PlanFile) (c d : counted.Plan) (es bs es′ bs′ : List ℕ) (cs cs′ : List ℤ) → Tables p c es bs cs → Tables p d es′ bs′ cs′ → c ≡ d
-counts-same p c d es bs es′ bs′ cs cs′ t u =
-    let a : c .nodes ≡ d .nodes = sym (t .nodes) ∙ u .nodes in
-    let b : c .variables ≡ d .variables = sym (t .variables) ∙ u .variables in
-    let e : c .edges ≡ d .edges = sym (t .edges) ∙ u .edges in
-    let g : c .atoms ≡ d .atoms = sym (t .atoms) ∙ u .atoms in
-    let h : c .clauses ≡ d .clauses = sym (t .clauses) ∙ u .clauses in
-    let k : c .literals ≡ d .literals = sym (t .literals) ∙ u .literals in
-    let z : _≡_ {A = counted.Plan} (record { nodes = c .nodes; variables = c .variables; edges = c .edges; atoms = c .atoms; clauses = c .clauses; literals = c .literals })
-    (record { nodes = d .nodes; variables = d .variables; edges = d .edges; atoms = d .atoms; clauses = d .clauses; literals = d .literals }) = cc in z
+counts-same p c d es bs es′ bs′ cs cs′ t u = λ i. record {
+  nodes = (sym (t .nodes) ∙ u .nodes) i;
+  variables = (sym (t .variables) ∙ u .variables) i;
+  edges = (sym (t .edges .count) ∙ u .edges .count) i;
+  atoms = (sym (t .atoms .count) ∙ u .atoms .count) i;
+  clauses = (sym (t .clauses .count) ∙ u .clauses .count) i;
+  literals = (sym (t .literals) ∙ u .literals) i;
+}
 
 -- no second answer fits
 pub one-answer : (q : Reading) (r s : ReadAnswer) (es bs es′ bs′ : List ℕ) (cs cs′ : List ℤ) → Answers q r es bs cs → Answers q s es′ bs′ cs′ → r ≡ s
@@ -150,7 +84,7 @@ one-answer (accepted p) (Accepted c) (Accepted d) es bs es′ bs′ cs cs′ h k
 pub one-filling : (p : PlanFile) (c : counted.Plan) (es bs es′ bs′ : List ℕ) (cs cs′ : List ℤ) → Tables p c es bs cs → Tables p c es′ bs′ cs′
     → (take (c .edges * 3) es ≡ take (c .edges * 3) es′) × (take (c .atoms * 5) bs ≡ take (c .atoms * 5) bs′)
     × (take (c .literals + c .clauses) cs ≡ take (c .literals + c .clauses) cs′)
-one-filling p c es bs es′ bs′ cs cs′ t u = (t .edgeRows ∙ sym (u .edgeRows), t .atomRows ∙ sym (u .atomRows), t .clauseRows ∙ sym (u .clauseRows))
+one-filling p c es bs es′ bs′ cs cs′ t u = (t .edges .rows ∙ sym (u .edges .rows), t .atoms .rows ∙ sym (u .atoms .rows), t .clauses .rows ∙ sym (u .clauses .rows))
 
 -- what a caller has of an accepted file: its plan, in range, in the tables, and the counts within the tables' room
 pub record Given (f : List ℕ) (c : counted.Plan) (es bs : List ℕ) (cs : List ℤ) : Type 0 where
@@ -160,25 +94,21 @@ pub record Given (f : List ℕ) (c : counted.Plan) (es bs : List ℕ) (cs : List
   pub tables : Tables plan c es bs cs
   pub room : Room c
 
+-- the counts of a plan file in range
+pub room-of : {p : PlanFile} {c : counted.Plan} {es bs : List ℕ} {cs : List ℤ} → Ranged p → Tables p c es bs cs → Room c
+room-of r t = record {
+  nodes = subst (λ n. n ≤ maxNodes) (t .nodes) (r .nodes);
+  variables = subst (λ n. n ≤ maxVariables) (t .variables) (r .variables);
+  edges = subst (λ n. n ≤ maxEdges) (t .edges .count) (r .edges);
+  atoms = subst (λ n. n ≤ maxAtoms) (t .atoms .count) (r .atoms);
+  clauses = subst (λ n. n ≤ maxClauses) (t .clauses .count) (r .clauses);
+  literals = subst (λ n. n ≤ maxLiterals) (t .literals) (r .literals);
+}
+
 given-by : (f : List ℕ) (q : Reading) → readPlan f ≡ q → (c : counted.Plan) (es bs : List ℕ) (cs : List ℤ) → Answers q (Accepted c) es bs cs
     → Given f c es bs cs
 given-by f (refused n v) e c es bs cs h = absurd h
-given-by f (accepted p) e c es bs cs h =
-    let r = read-ranged f p e in
-    record {
-      plan = p;
-      reads = e;
-      ranged = r;
-      tables = h;
-      room = record {
-        nodes = subst (λ n. n ≤ maxNodes) (h .nodes) (r .nodes);
-        variables = subst (λ n. n ≤ maxVariables) (h .variables) (r .variables);
-        edges = subst (λ n. n ≤ maxEdges) (h .edges) (r .edges);
-        atoms = subst (λ n. n ≤ maxAtoms) (h .atoms) (r .atoms);
-        clauses = subst (λ n. n ≤ maxClauses) (h .clauses) (r .clauses);
-        literals = subst (λ n. n ≤ maxLiterals) (h .literals) (r .literals);
-      };
-    }
+given-by f (accepted p) e c es bs cs h = let r = read-ranged f p e in record { plan = p; reads = e; ranged = r; tables = h; room = room-of r h }
 
 pub given : (f : List ℕ) (a : ReadAnswer) (c : counted.Plan) (es bs : List ℕ) (cs : List ℤ) → Answers (readPlan f) a es bs cs → a ≡ Accepted c
     → Given f c es bs cs

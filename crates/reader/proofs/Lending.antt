@@ -1,12 +1,8 @@
 -- What an accepted file leaves in the tables is what the library lends on: the plan file itself, in range.
 -- Assumes nothing.
-use mathlib.Core.Path.{_≡_, refl, sym, ap, _∙_, subst}
+use Rattle.reader.proofs.Kit.{_≡_, refl, sym, ap, _∙_, subst, List, [], _∷_, List·Memᴰ, ℕ, _+_, _*_, arith, ℤ, pos, natAbs, length, take, length-append}
 use mathlib.Core.Logic.{_≢_}
-use mathlib.Core.List.{List, [], _∷_, List·Memᴰ}
-use Prim.Native.Nat.{ℕ, _+_, _*_}
-use native.Mathlib.Omega.{arith}
-use lib.IntN.{ℤ, pos, natAbs}
-use lib.ListN.{length, take}
+use native.Mathlib.Nat.{suc-mul, add-comm}
 use Rattle.plan.specs.Meaning.{Edge, Atom}
 use Rattle.plan.specs.Ranged.{Ranged, literals}
 use Rattle.plan.specs.Written.{flat}
@@ -14,30 +10,25 @@ use Rattle.plan.specs.Tables.{edgesOf, atomsOf, clausesOf, planOf, Lent}
 use Rattle.plan.specs.declared.Plan as counted
 use Rattle.plan.proofs.ClauseTable.{clauses-back}
 use Rattle.reader.specs.Format.{accepted, readPlan}
-use Rattle.reader.specs.Filling.{flatEdges, flatAtoms, Answers}
+use Rattle.reader.specs.Filling.{rowsOf, edgeRow, atomRow, Answers}
 use Rattle.reader.specs.declared.ReadAnswer.{ReadAnswer}
 use Rattle.reader.specs.declared.ReadAnswer.the-variants.{Accepted}
 use Rattle.reader.proofs.Exact.{Given, given}
 
-edges-back : (es : List Edge) → edgesOf (flatEdges es) ≡ es
-unfolding edgesOf flatEdges
+edges-back : (es : List Edge) → edgesOf (rowsOf edgeRow es) ≡ es
+unfolding edgesOf rowsOf
 edges-back [] = refl
 edges-back (e ∷ es) = ap (λ l. e ∷ l) (edges-back es)
 
-atoms-back : (bs : List Atom) → atomsOf (flatAtoms bs) ≡ bs
-unfolding atomsOf flatAtoms
+atoms-back : (bs : List Atom) → atomsOf (rowsOf atomRow bs) ≡ bs
+unfolding atomsOf rowsOf
 atoms-back [] = refl
 atoms-back (b ∷ bs) = ap (λ l. b ∷ l) (atoms-back bs)
 
-edges-room : (es : List Edge) → length (flatEdges es) ≡ length es * 3
-unfolding flatEdges
-edges-room [] = refl
-edges-room (e ∷ es) = omega (arith, edges-room es)
-
-atoms-room : (bs : List Atom) → length (flatAtoms bs) ≡ length bs * 5
-unfolding flatAtoms
-atoms-room [] = refl
-atoms-room (b ∷ bs) = omega (arith, atoms-room bs)
+rows-length : {A : Type 0} (row : A → List ℕ) (k : ℕ) → ((x : A) → length (row x) ≡ k) → (xs : List A) → length (rowsOf row xs) ≡ length xs * k
+unfolding rowsOf
+rows-length row k e [] = omega arith
+rows-length row k e (x ∷ xs) = simp (length-append, e x, rows-length row k e xs) (add-comm k (length xs * k) ∙ sym (suc-mul (length xs) k))
 
 -- the plan file of the tables' used parts, and what is guaranteed of them
 pub record Lending (f : List ℕ) (c : counted.Plan) (es bs : List ℕ) (cs : List ℤ) : Type 0 where
@@ -49,13 +40,13 @@ module _ (f : List ℕ) (c : counted.Plan) (es bs : List ℕ) (cs : List ℤ) (g
   not-zero C m l k e = let z : natAbs l ≡ 0 = ap natAbs e in omega (arith, g .ranged .literal C m l k .low)
 
   edges-are : edgesOf (take (c .edges * 3) es) ≡ g .plan .edges
-  edges-are = ap edgesOf (g .tables .edgeRows) ∙ edges-back (g .plan .edges)
+  edges-are = ap edgesOf (g .tables .edges .rows) ∙ edges-back (g .plan .edges)
 
   atoms-are : atomsOf (take (c .atoms * 5) bs) ≡ g .plan .atoms
-  atoms-are = ap atomsOf (g .tables .atomRows) ∙ atoms-back (g .plan .atoms)
+  atoms-are = ap atomsOf (g .tables .atoms .rows) ∙ atoms-back (g .plan .atoms)
 
   clauses-are : clausesOf (take (c .literals + c .clauses) cs) ≡ g .plan .clauses
-  clauses-are = ap clausesOf (g .tables .clauseRows) ∙ clauses-back (g .plan .clauses) not-zero
+  clauses-are = ap clausesOf (g .tables .clauses .rows) ∙ clauses-back (g .plan .clauses) not-zero
 
   same : planOf c (take (c .edges * 3) es) (take (c .atoms * 5) bs) (take (c .literals + c .clauses) cs) ≡ g .plan
   same =
@@ -68,11 +59,11 @@ module _ (f : List ℕ) (c : counted.Plan) (es bs : List ℕ) (cs : List ℤ) (g
     reads = g .reads ∙ ap accepted (sym same);
     lent = record {
       ranged = subst Ranged (sym same) (g .ranged);
-      edges = ap length (g .tables .edgeRows) ∙ edges-room (g .plan .edges) ∙ ap (λ n. n * 3) (g .tables .edges);
-      atoms = ap length (g .tables .atomRows) ∙ atoms-room (g .plan .atoms) ∙ ap (λ n. n * 5) (g .tables .atoms);
-      clauses = ap length clauses-are ∙ g .tables .clauses;
+      edges = ap length (g .tables .edges .rows) ∙ rows-length edgeRow 3 (λ e. refl) (g .plan .edges) ∙ ap (λ n. n * 3) (g .tables .edges .count);
+      atoms = ap length (g .tables .atoms .rows) ∙ rows-length atomRow 5 (λ a. refl) (g .plan .atoms) ∙ ap (λ n. n * 5) (g .tables .atoms .count);
+      clauses = ap length clauses-are ∙ g .tables .clauses .count;
       literals = ap literals clauses-are ∙ g .tables .literals;
-      ended = ap flat clauses-are ∙ sym (g .tables .clauseRows);
+      ended = ap flat clauses-are ∙ sym (g .tables .clauses .rows);
     };
   }
 

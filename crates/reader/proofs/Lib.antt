@@ -1,8 +1,10 @@
+pub mod Kit
 pub mod Bits
 pub mod Rows
 pub mod Steps
-pub mod Loop
+pub mod Cases
 pub mod Accepts
 pub mod Exact
-pub mod Sample
+pub mod Loop
 pub mod Lending
+pub mod Sample

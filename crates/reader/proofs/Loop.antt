@@ -1,116 +1,86 @@
--- From record to record: the reading from where the loop stands is the reading from where it began.
+-- From record to record: what is read from where the loop stands is what the file reads as.
 -- Assumes nothing.
-use mathlib.Core.Path.{_≡_, refl, sym, ap, _∙_, subst}
-use mathlib.Core.Bool.{true, _&&_, and-eq-true-iff}
-use mathlib.Core.List.{List}
-use Prim.Native.Nat.{ℕ, zero, suc, _+_, _-_, _<_, _≤_}
-use native.Mathlib.Omega.{arith}
-use borrow.Author.Tests.{eq-eqb, ne-eqb, leb-true}
-use lib.Dec.{leb, eqb}
-use lib.IntN.{ℤ}
-use lib.ListN.{length}
+use Rattle.reader.proofs.Kit.{_≡_, ap, _∙_, subst, List, ℕ, suc, _-_, _<_, _≤_, arith, ℤ, length}
 use Rattle.plan.specs.Meaning.{PlanFile}
-use Rattle.plan.specs.Ranged.{literals}
-use Rattle.plan.specs.Written.{flat}
+use Rattle.plan.specs.Ranged.{Ranged}
 use Rattle.plan.specs.declared.Plan as counted
-use Rattle.reader.specs.Format.{Step, next, done, check, Reading, refused, onward, word, tagAt, after, headOk, emptyPlan, records, stepAt, readPlan}
-use Rattle.reader.specs.Filling.{Tables, Room, Answers, RefusedBy, HeadRead, RecordRead, EndRead, RestRead, start, oneMore, added, led, flatEdges, flatAtoms}
-use Rattle.reader.specs.declared.ReadAnswer.{ReadAnswer}
+use Rattle.plan.specs.declared.Refusal.{Refusal}
+use Rattle.reader.specs.Format.{Step, onward, stepAt, headAt, readPlan}
+use Rattle.reader.specs.Filling.{Tables, Steps, refuses, leads, ends, Takes, Answers}
+use Rattle.reader.specs.declared.Step as code
+use Rattle.reader.specs.declared.Step.the-variants.{Refuse, Next, Done}
 use Rattle.reader.specs.declared.ReadAnswer.the-variants.{Accepted, Refused}
+use Rattle.reader.proofs.Accepts.{Good, step-good, head-good}
+use Rattle.reader.proofs.Exact.{Ahead, step-ahead, head-ahead, readFrom, read-head, read-step}
 
--- some plan file stands in the tables, and what is read from the offset on is r
-pub record Reached (f : List ℕ) (r : Reading) (at : ℕ) (c : counted.Plan) (es bs : List ℕ) (cs : List ℤ) : Type 0 where
+-- how much of the file is left behind a step
+abbrev pub left : List ℕ → code.Step → ℕ
+left f (Refuse y) = 0
+left f (Next at c) = suc (length f) - at
+left f (Done c) = 0
+
+-- The code's step x is a step of the definition, from which the file is read.
+pub record Reached (f : List ℕ) (x : code.Step) (es bs : List ℕ) (cs : List ℤ) : Type 0 where
+  pub from : ℕ
+  pub step : Step
+  pub reads : readPlan f ≡ onward (readFrom f) step
+  pub stands : Steps es bs cs step x
+  pub ahead : Ahead f from step
+  pub good : Good step
+
+-- A plan file in range stands in the tables, and the file is read on from the offset.
+pub record Standing (f : List ℕ) (at : ℕ) (c : counted.Plan) (es bs : List ℕ) (cs : List ℤ) : Type 0 where
   pub plan : PlanFile
-  pub turns : ℕ
-  pub enough : length f < at + turns
+  pub reads : readPlan f ≡ readFrom f at plan
+  pub within : at ≤ length f
   pub tables : Tables plan c es bs cs
-  pub same : records turns f at plan ≡ r
+  pub ranged : Ranged plan
 
-turn : (f : List ℕ) (k at : ℕ) (p : PlanFile) → 0 < k → records k f at p ≡ onward (records (k - 1) f) (stepAt f at p)
-unfolding records
-turn f zero at p h = absurd (omega arith)
-turn f (suc k) at p h = let e : suc k - 1 ≡ k = omega arith in ap (λ n. onward (records n f) (stepAt f at p)) (sym e)
+pub begins : (f : List ℕ) {x : code.Step} {es bs : List ℕ} {cs : List ℤ} → Steps es bs cs (headAt f) x → Reached f x es bs cs
+begins f h = record { from = 0; step = headAt f; reads = read-head f; stands = h; ahead = head-ahead f; good = head-good f }
 
--- what a step's number leads to
-numbered : (g : ℕ → PlanFile → Reading) (s l : Step) (n v : ℕ) → s ≡ check (eqb n 0) n v l → (n ≡ 0 → ⊥) → onward g s ≡ refused n v
-numbered g s l n v e h = ap (onward g) (e ∙ ap (λ b. check b n v l) (ne-eqb n 0 h))
+module _ (f : List ℕ) {es bs : List ℕ} {cs : List ℤ} where
+  refused-by : {s : Step} {y : Refusal} → Steps es bs cs s (Refuse y) → readPlan f ≡ onward (readFrom f) s → Answers (readPlan f) (Refused y) es bs cs
+  refused-by (refuses n v) e = rw e (n, v)
 
-unnumbered : (g : ℕ → PlanFile → Reading) (s l : Step) (n v : ℕ) → s ≡ check (eqb n 0) n v l → n ≡ 0 → onward g s ≡ onward g l
-unnumbered g s l n v e h = ap (onward g) (e ∙ ap (λ b. check b n v l) (eq-eqb n 0 h))
+  accepted-by : {s : Step} {c : counted.Plan} → Steps es bs cs s (Done c) → readPlan f ≡ onward (readFrom f) s → Answers (readPlan f) (Accepted c) es bs cs
+  accepted-by (ends t) e = rw e t
 
-answers : (n v : ℕ) (x : ReadAnswer) (es bs : List ℕ) (cs : List ℤ) → RefusedBy n v x → Answers (refused n v) x es bs cs
-answers n v (Refused y) es bs cs e = e
-answers n v (Accepted c) es bs cs e = e
+  standing-by : {s : Step} {at : ℕ} {c : counted.Plan} → Steps es bs cs s (Next at c) → readPlan f ≡ onward (readFrom f) s → (b : ℕ) → Ahead f b s → Good s
+      → Standing f at c es bs cs
+  standing-by (leads {p = p} q t) e b a g =
+      record { plan = p; reads = e ∙ ap (λ x. readFrom f x p) q; within = omega (arith, q, a .1); tables = t; ranged = g }
 
-module _ {f : List ℕ} {r : Reading} {at : ℕ} {c : counted.Plan} {es bs : List ℕ} {cs : List ℤ} (w : Reached f r at c es bs cs) (within : at ≤ length f)
-    {n : ℕ} {es′ bs′ : List ℕ} {cs′ : List ℤ} (k : RecordRead f at c es bs cs n es′ bs′ cs′) where
-  abbrev rest : ℕ → PlanFile → Reading
-  rest = records (w .turns - 1) f
+  falls-by : {s : Step} {x : code.Step} → Steps es bs cs s x → (at : ℕ) → at ≤ length f → Ahead f at s → left f x < suc (length f) - at
+  falls-by (refuses n v) at w a = omega arith
+  falls-by (leads q t) at w a = omega (arith, q, a)
+  falls-by (ends t) at w a = omega arith
 
-  go-on : onward rest (stepAt f at (w .plan)) ≡ r
-  go-on = sym (turn f (w .turns) at (w .plan) (omega (arith, w .enough))) ∙ w .same
+module _ {f : List ℕ} {x : code.Step} {es bs : List ℕ} {cs : List ℤ} (w : Reached f x es bs cs) where
+  known : {z : code.Step} → x ≡ z → Steps es bs cs (w .step) z
+  known e = subst (λ z. Steps es bs cs (w .step) z) e (w .stands)
 
-  pub end-refused : (n ≡ 0 → ⊥) → (x : ReadAnswer) → RefusedBy n at x → Answers r x es′ bs′ cs′
-  end-refused h x e =
-      subst (λ q. Answers q x es′ bs′ cs′) (sym (numbered rest _ (led f at (w .plan)) n at (k .took .step (w .plan) (w .tables)) h) ∙ go-on)
-      (answers n at x es′ bs′ cs′ e)
+  pub answers-refused : {y : Refusal} → x ≡ Refuse y → Answers (readPlan f) (Refused y) es bs cs
+  answers-refused e = refused-by f (known e) (w .reads)
 
-  module _ (z : n ≡ 0) where
-    led-on : onward rest (led f at (w .plan)) ≡ r
-    led-on = sym (unnumbered rest _ (led f at (w .plan)) n at (k .took .step (w .plan) (w .tables)) z) ∙ go-on
+  pub answers-accepted : {c : counted.Plan} → x ≡ Done c → Answers (readPlan f) (Accepted c) es bs cs
+  answers-accepted e = accepted-by f (known e) (w .reads)
 
-    stand : Tables (added f at (w .plan)) (oneMore f at c) es′ bs′ cs′
-    stand = k .took .tables z (w .plan) (w .tables)
+  pub standing : {at : ℕ} {c : counted.Plan} → x ≡ Next at c → Standing f at c es bs cs
+  standing e = standing-by f (known e) (w .reads) (w .from) (w .ahead) (w .good)
 
-    pub end-read : tagAt f at ≡ 5 → (a : ReadAnswer) → EndRead f (at + 3) c a → Answers r a es′ bs′ cs′
-    unfolding led added oneMore
-    end-read e a g =
-        let q : led f at (w .plan) ≡ check (eqb (length f) (at + 3)) 3 (at + 3) (done (w .plan)) = simp e in
-        subst (λ q. Answers q a es′ bs′ cs′) (ap (onward rest) (sym q) ∙ led-on) (g rest (w .plan) es′ bs′ cs′ (simp e at stand))
+-- one record further
+module _ {f : List ℕ} {at : ℕ} {c : counted.Plan} {es bs : List ℕ} {cs : List ℤ} (w : Standing f at c es bs cs) (x : code.Step) (es′ bs′ : List ℕ) (cs′ : List ℤ)
+    (k : Takes (stepAt f at) c es bs cs x es′ bs′ cs′) where
+  pub goes-on : Reached f x es′ bs′ cs′
+  goes-on = record {
+    from = at;
+    step = stepAt f at (w .plan);
+    reads = w .reads ∙ read-step f at (w .plan) (w .within);
+    stands = k (w .plan) (w .tables);
+    ahead = step-ahead f at (w .plan);
+    good = step-good f at (w .plan) (w .ranged);
+  }
 
-    pub go-next : (tagAt f at ≡ 5 → ⊥) → (b : ℕ) (d : counted.Plan) → b ≡ after f at → d ≡ oneMore f at c → Reached f r b d es′ bs′ cs′
-    unfolding led
-    go-next e b d be de =
-        let q : led f at (w .plan) ≡ next (after f at) (added f at (w .plan)) = simp (ne-eqb _ 5 e) in
-        record {
-          plan = added f at (w .plan);
-          turns = w .turns - 1;
-          enough = omega (arith, w .enough);
-          tables = subst (λ d. Tables (added f at (w .plan)) d es′ bs′ cs′) (sym de) stand;
-          same = ap (λ b. rest b (added f at (w .plan))) be ∙ ap (onward rest) (sym q) ∙ led-on;
-        }
-
-start-tables : (f es bs : List ℕ) (cs : List ℤ) → Tables (emptyPlan (word f 3) (word f 5)) (start f) es bs cs
-unfolding flatEdges flatAtoms flat literals
-start-tables f es bs cs =
-    record { nodes = refl; variables = refl; edges = refl; atoms = refl; clauses = refl; literals = refl; edgeRows = refl; atomRows = refl; clauseRows = refl }
-
-pub start-room : (f : List ℕ) → headOk (word f 3) (word f 5) ≡ true → Room (start f)
-unfolding headOk
-start-room f h =
-    let n = word f 3 in
-    let v = word f 5 in
-    let q = and-eq-true-iff (leb 1 n && leb n 64 && leb 1 v) (leb v 512) .0 h in
-    let k = and-eq-true-iff (leb 1 n && leb n 64) (leb 1 v) .0 (q .0) in
-    let m = and-eq-true-iff (leb 1 n) (leb n 64) .0 (k .0) in
-    record {
-      nodes = leb-true n 64 (m .1);
-      variables = leb-true v 512 (q .1);
-      edges = omega arith;
-      atoms = omega arith;
-      clauses = omega arith;
-      literals = omega arith;
-    }
-
--- the whole file, from the head's number
-module _ (f : List ℕ) {n : ℕ} (h : HeadRead f n) where
-  pub read-refused : (n ≡ 0 → ⊥) → (x : ReadAnswer) → RefusedBy n 0 x → (es bs : List ℕ) (cs : List ℤ) → Answers (readPlan f) x es bs cs
-  unfolding readPlan
-  read-refused z x e es bs cs = subst (λ q. Answers q x es bs cs) (sym (numbered (records (length f) f) _ _ n 0 (h .step) z)) (answers n 0 x es bs cs e)
-
-  pub read-rest : n ≡ 0 → (es bs es′ bs′ : List ℕ) (cs cs′ : List ℤ) (r : ReadAnswer) → RestRead f 7 (start f) es bs cs r es′ bs′ cs′
-      → Answers (readPlan f) r es′ bs′ cs′
-  unfolding readPlan
-  read-rest z es bs es′ bs′ cs cs′ r g =
-      subst (λ q. Answers q r es′ bs′ cs′) (sym (unnumbered (records (length f) f) _ _ n 0 (h .step) z))
-      (g _ (length f) (omega arith) (start-tables f es bs cs))
+  pub falls : left f x < left f (Next at c)
+  falls = falls-by f (k (w .plan) (w .tables)) at (w .within) (step-ahead f at (w .plan))

@@ -1,20 +1,12 @@
 -- Rows of flat tables, and lists of literals.
 -- Assumes nothing.
-use mathlib.Core.Path.{_≡_, refl, sym, ap, _∙_}
-use mathlib.Core.Bool.{true, false, _&&_, _||_}
-use mathlib.Core.List.{List, [], _∷_, _++_, append-assoc, append-nil}
-use Prim.Native.Nat.{ℕ, zero, suc, _+_, _-_, _<_, _≤_}
-use native.Mathlib.Omega.{arith}
-use lib.Dec.{eqb}
-use borrow.Author.Tests.{eq-eqb, ne-eqb}
-use lib.IntN.{ℤ, pos}
-use lib.ListN.{length, take, drop, getD, set, length-set, length-drop, length-append}
-use lib.Seq.{take-suc-set, append-snoc, getD-drop, drop-drop}
+use Rattle.reader.proofs.Kit.{_≡_, refl, sym, ap, _∙_, Bool, true, false, _&&_, _||_, List, [], _∷_, _++_, append-assoc, append-nil, ℕ, zero, suc, _+_, _-_, _<_, _≤_, arith, eq-eqb, ne-eqb, eqb, ℤ, pos, length, take, drop, getD, set, length-set, length-drop, length-append}
+use lib.Seq.{take-suc-set, append-snoc, getD-drop, getD-take, drop-drop, length-take-le}
 use Rattle.plan.specs.Meaning.{Edge, Atom}
 use Rattle.plan.specs.Ranged.{literals}
 use Rattle.plan.specs.Written.{flat}
-use Rattle.reader.specs.Format.{word, twos, literalsIn, literalsOk, literalOk, edgeUses, atomUses}
-use Rattle.reader.specs.Filling.{lastIs, flatEdges, flatAtoms}
+use Rattle.reader.specs.Format.{word, twos, literalsIn, literalsOk, literalOk, serves, edgeUses, atomUses}
+use Rattle.reader.specs.Filling.{lastIs, rowsOf, edgeRow, atomRow}
 
 -- one more element behind what stands there
 pub put-next : {A : Type 0} (l : List A) (j n : ℕ) (a : A) (xs : List A) → n ≡ suc j → j < length l → take j l ≡ xs → take n (set l j a) ≡ xs ++ (a ∷ [])
@@ -32,9 +24,10 @@ puts-take (a ∷ vs) t k j n xs e h q =
     (put-next t (k + j) (k + suc j) a xs (omega arith) (omega arith) q)
     ∙ append-snoc xs a vs
 
-pub put-row : (t : List ℕ) (k n a : ℕ) (vs : List ℕ) → n ≡ 1 + length vs → k + n ≤ length t → take (k + n) (puts (set t k a) k 1 vs) ≡ take k t ++ (a ∷ vs)
-put-row t k n a vs e h =
-    puts-take vs (set t k a) k 1 n (take k t ++ (a ∷ [])) e (simp length-set (omega arith)) (put-next t k (k + 1) a (take k t) (omega arith) (omega arith) refl)
+pub put-row : (t : List ℕ) (k n m a : ℕ) (vs : List ℕ) → n ≡ 1 + length vs → m ≡ k + n → m ≤ length t → take m (puts (set t k a) k 1 vs) ≡ take k t ++ (a ∷ vs)
+put-row t k n m a vs e q h =
+    ap (λ i. take i (puts (set t k a) k 1 vs)) q
+    ∙ puts-take vs (set t k a) k 1 n (take k t ++ (a ∷ [])) e (simp length-set (omega arith)) (put-next t k (k + 1) a (take k t) (omega arith) (omega arith) refl)
     ∙ append-snoc (take k t) a vs
 
 -- literals: the first, and the others
@@ -78,43 +71,44 @@ last-step n k [] v h = absurd (omega arith)
 last-step n zero (x ∷ l) v h = refl
 last-step n (suc k) (x ∷ l) v h = last-step n k l v (omega arith)
 
-module _ (t : List ℕ) (v n i : ℕ) where
-  pub uses-end : length t - i ≤ n → lastIs n n (drop i t) v ≡ false
-  uses-end h = last-none n n (drop i t) v (simp length-drop h)
+-- the same in the first u numbers of a table, from the place i on
+module _ (t : List ℕ) (u v n i : ℕ) (h : u ≤ length t) where
+  abbrev behind : ℕ → Bool
+  behind k = lastIs n n (drop k (take u t)) v
 
-  uses-step : n < length t - i → lastIs n n (drop i t) v ≡ (eqb (getD t (i + n) 0) v || lastIs n n (drop (i + n + 1) t) v)
-  uses-step h =
-      let e : i + suc n ≡ i + n + 1 = omega arith in
-      last-step n n (drop i t) v (simp length-drop h) ∙ simp (getD-drop, drop-drop, e)
+  pub uses-end : u - i ≤ n → behind i ≡ false
+  uses-end e = last-none n n (drop i (take u t)) v (simp (length-drop, length-take-le u t h) e)
 
-  pub uses-hit : n < length t - i → getD t (i + n) 0 ≡ v → lastIs n n (drop i t) v ≡ true
-  uses-hit h e = uses-step h ∙ ap (λ b. b || lastIs n n (drop (i + n + 1) t) v) (eq-eqb _ _ e)
+  module _ (more : n < u - i) where
+    uses-step : behind i ≡ (eqb (getD t (i + n) 0) v || behind (i + n + 1))
+    uses-step =
+        let e : i + suc n ≡ i + n + 1 = omega arith in
+        last-step n n (drop i (take u t)) v (simp (length-drop, length-take-le u t h) more)
+        ∙ simp (getD-drop, drop-drop, e, getD-take u t (i + n) 0 (omega arith))
 
-  pub uses-miss : n < length t - i → (getD t (i + n) 0 ≡ v → ⊥) → lastIs n n (drop i t) v ≡ lastIs n n (drop (i + n + 1) t) v
-  uses-miss h e = uses-step h ∙ ap (λ b. b || lastIs n n (drop (i + n + 1) t) v) (ne-eqb _ _ e)
+    pub uses-hit : getD t (i + n) 0 ≡ v → behind i ≡ true
+    uses-hit e = uses-step ∙ ap (λ b. b || behind (i + n + 1)) (eq-eqb _ _ e)
 
-pub uses-edges : (es : List Edge) (v : ℕ) → lastIs 2 2 (flatEdges es) v ≡ edgeUses es v
-unfolding lastIs flatEdges edgeUses
+    pub uses-miss : (getD t (i + n) 0 ≡ v → ⊥) → behind i ≡ behind (i + n + 1)
+    uses-miss e = uses-step ∙ ap (λ b. b || behind (i + n + 1)) (ne-eqb _ _ e)
+
+pub uses-edges : (es : List Edge) (v : ℕ) → lastIs 2 2 (rowsOf edgeRow es) v ≡ edgeUses es v
+unfolding lastIs rowsOf serves
 uses-edges [] v = refl
 uses-edges (e ∷ es) v = ap (λ b. eqb (e .variable) v || b) (uses-edges es v)
 
-pub uses-atoms : (bs : List Atom) (v : ℕ) → lastIs 4 4 (flatAtoms bs) v ≡ atomUses bs v
-unfolding lastIs flatAtoms atomUses
+pub uses-atoms : (bs : List Atom) (v : ℕ) → lastIs 4 4 (rowsOf atomRow bs) v ≡ atomUses bs v
+unfolding lastIs rowsOf serves
 uses-atoms [] v = refl
 uses-atoms (a ∷ bs) v = ap (λ b. eqb (a .variable) v || b) (uses-atoms bs v)
 
 -- one more row
-pub flat-edge : (es : List Edge) (e : Edge) → flatEdges (es ++ (e ∷ [])) ≡ flatEdges es ++ (e .from ∷ e .to ∷ e .variable ∷ [])
-unfolding flatEdges
-flat-edge [] e = refl
-flat-edge (d ∷ es) e = ap (λ l. d .from ∷ d .to ∷ d .variable ∷ l) (flat-edge es e)
+pub rows-more : {A : Type 0} (row : A → List ℕ) (xs : List A) (x : A) → rowsOf row (xs ++ (x ∷ [])) ≡ rowsOf row xs ++ row x
+unfolding rowsOf
+rows-more row [] x = append-nil (row x)
+rows-more row (y ∷ xs) x = ap (λ l. row y ++ l) (rows-more row xs x) ∙ sym (append-assoc (row y) (rowsOf row xs) (row x))
 
-pub flat-atom : (bs : List Atom) (a : Atom) → flatAtoms (bs ++ (a ∷ [])) ≡ flatAtoms bs ++ (a .kind ∷ a .from ∷ a .to ∷ a .bound ∷ a .variable ∷ [])
-unfolding flatAtoms
-flat-atom [] a = refl
-flat-atom (d ∷ bs) a = ap (λ l. d .kind ∷ d .from ∷ d .to ∷ d .bound ∷ d .variable ∷ l) (flat-atom bs a)
-
-pub flat-clause : (cs : List (List ℤ)) (c : List ℤ) → flat (cs ++ (c ∷ [])) ≡ flat cs ++ c ++ (pos 0 ∷ [])
+pub flat-clause : (cs : List (List ℤ)) (c : List ℤ) → flat (cs ++ (c ∷ [])) ≡ flat cs ++ (c ++ (pos 0 ∷ []))
 unfolding flat
 flat-clause [] c = refl
 flat-clause (d ∷ cs) c = ap (λ l. d ++ (pos 0 ∷ l)) (flat-clause cs c) ∙ simp append-assoc

@@ -1,11 +1,8 @@
 -- The sample file, read by the definition.
 -- Assumes nothing.
-use mathlib.Core.Path.{_≡_, refl}
-use mathlib.Core.List.{List, [], _∷_}
-use Prim.Native.Nat.{ℕ}
-use lib.IntN.{pos, negsuc}
+use Rattle.reader.proofs.Kit.{_≡_, refl, List, [], _∷_, ℕ, pos, negsuc}
 use Rattle.plan.specs.Meaning.{PlanFile}
-use Rattle.reader.specs.Format.{refused, accepted, readPlan, records, headAt, stepAt, edgeAt, atomAt, clauseAt, endAt, fits, headOk, endsOk, kindOk, literalOk, literalsOk, literalsIn, edgeUses, atomUses, clauseLen}
+use Rattle.reader.specs.Format.{refused, accepted, readPlan, records, headAt, stepAt, edgeAt, atomAt, clauseAt, endAt, fits, headOk, endsOk, kindOk, literalOk, literalsOk, literalsIn, serves, clauseLen}
 use Rattle.plan.specs.Ranged.{literals}
 
 pub sample : List ℕ
@@ -21,7 +18,7 @@ samplePlan = record {
 }
 
 pub sample-reads : readPlan sample ≡ accepted samplePlan
-unfolding sample samplePlan readPlan records headAt stepAt edgeAt atomAt clauseAt endAt fits headOk endsOk kindOk literalOk literalsOk literalsIn edgeUses atomUses literals clauseLen
+unfolding sample samplePlan readPlan records headAt stepAt edgeAt atomAt clauseAt endAt fits headOk endsOk kindOk literalOk literalsOk literalsIn serves literals clauseLen
 sample-reads = refl
 
 pub empty-reads : readPlan [] ≡ refused 2 0

@@ -1,4 +1,4 @@
--- The plan file: what a file reads as. Document 01, "PlanFile file" and "Numbers given on refusal", 1 to 8.
+-- The plan file: what a file reads as. Document 01, "Plan file" and "Numbers given on refusal", 1 to 8.
 -- Assumes nothing.
 use Prim.Native.Nat.{ℕ, zero, suc, _+_, _-_, _*_, _/_}
 use mathlib.Core.Bool.{Bool, true, false, not, _&&_, _||_}
@@ -86,14 +86,16 @@ unfoldable pub literalsOk : ℕ → List ℤ → Bool
 literalsOk variables [] = true
 literalsOk variables (l ∷ ls) = literalOk variables l && literalsOk variables ls
 
--- "A variable may not serve an edge and an atom."
-unfoldable pub edgeUses : List Edge → ℕ → Bool
-edgeUses [] v = false
-edgeUses (e ∷ es) v = eqb (e .variable) v || edgeUses es v
+-- "A variable may not serve an edge and an atom." Variable v serves one of the edges, one of the atoms.
+unfoldable pub serves : {A : Type 0} → (A → ℕ) → List A → ℕ → Bool
+serves variable [] v = false
+serves variable (x ∷ xs) v = eqb (variable x) v || serves variable xs v
 
-unfoldable pub atomUses : List Atom → ℕ → Bool
-atomUses [] v = false
-atomUses (a ∷ bs) v = eqb (a .variable) v || atomUses bs v
+abbrev pub edgeUses : List Edge → ℕ → Bool
+edgeUses = serves (λ e. e .variable)
+
+abbrev pub atomUses : List Atom → ℕ → Bool
+atomUses = serves (λ a. a .variable)
 
 -- "2 edge: from, to, variable (u16 each). 3 atom: kind (u8), from, to, bound, variable (u16 each). 4 clause: literals": the values of the record
 -- at an offset

@@ -3,7 +3,7 @@ ghost use mathlib.Core.Path.{_≡_};
 ghost use Prim.Native.Nat.{_+_, _*_, _<_, _≤_};
 ghost use lib.ListN.{length};
 ghost use Rattle.plan.specs.Tables.{edgeOf, atomOf};
-ghost use Rattle.reader.specs.Format.{word, twos, after, fits, headOk, endsOk, kindOk, literalOk, literalsOk, literalsIn, edgeIn, atomIn};
+ghost use Rattle.reader.specs.Format.{word, twos, fits, headOk, endsOk, kindOk, edgeOk, atomOk, literalOk, literalsOk, literalsIn, edgeIn, atomIn};
 use plan::Atom;
 use plan::Edge;
 use plan::Plan;
@@ -29,14 +29,6 @@ pub fn record_fits(file: &[u8], at: usize) -> bool
         return false;
     }
     true
-}
-
-// The offset behind the record at an offset.
-pub fn behind(file: &[u8], at: usize) -> usize
-    requires { ⌜ after (now file) at ≤ length (now file) ⌝ }
-    ensures { λ r. ⌜ r ≡ after (now (file .entry)) at ⌝ }
-{
-    at + 3 + wide(word(file, at + 1))
 }
 
 // 16 bits as a signed number.
@@ -92,22 +84,22 @@ pub fn head_ok(nodes: u16, variables: u16) -> bool
     variables <= Plan::MAX_VARIABLES
 }
 
-pub fn ends_ok(nodes: u16, variables: u16, from: u16, to: u16, variable: u16) -> bool
-    ensures { λ r. ⌜ r ≡ endsOk nodes variables from to variable ⌝ }
+fn ends_ok(counts: Plan, from: u16, to: u16, variable: u16) -> bool
+    ensures { λ r. ⌜ r ≡ endsOk (counts .nodes) (counts .variables) from to variable ⌝ }
 {
-    if from >= nodes {
+    if from >= counts.nodes {
         return false;
     }
-    if to >= nodes {
+    if to >= counts.nodes {
         return false;
     }
     if variable < 1 {
         return false;
     }
-    variable <= variables
+    variable <= counts.variables
 }
 
-pub fn kind_ok(kind: u16, bound: u16) -> bool
+fn kind_ok(kind: u16, bound: u16) -> bool
     ensures { λ r. ⌜ r ≡ kindOk kind bound ⌝ }
 {
     if kind == 1 {
@@ -117,6 +109,21 @@ pub fn kind_ok(kind: u16, bound: u16) -> bool
         return bound <= Atom::MAX_BOUND;
     }
     false
+}
+
+pub fn edge_ok(counts: Plan, edge: Edge) -> bool
+    ensures { λ r. ⌜ r ≡ edgeOk (counts .nodes) (counts .variables) (edgeOf edge) ⌝ }
+{
+    ends_ok(counts, edge.from, edge.to, edge.variable)
+}
+
+pub fn atom_ok(counts: Plan, atom: Atom) -> bool
+    ensures { λ r. ⌜ r ≡ atomOk (counts .nodes) (counts .variables) (atomOf atom) ⌝ }
+{
+    if !kind_ok(atom.kind, atom.bound) {
+        return false;
+    }
+    ends_ok(counts, atom.from, atom.to, atom.variable)
 }
 
 // A literal is tested before it becomes a signed number, so that -32,768 needs no case of its own.

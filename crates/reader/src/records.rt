@@ -1,47 +1,44 @@
-// The records behind the head: each is tested, and goes into its table or is refused by a number.
+// The records behind the head: each is tested, and goes into its table or is refused.
 ghost use mathlib.Core.Path.{_≡_};
-ghost use mathlib.Core.List.{[], _∷_, _++_};
-ghost use Prim.Native.Nat.{_+_, _*_, _<_, _≤_};
-ghost use lib.IntN.{pos};
+ghost use mathlib.Core.List.{List, [], _∷_, _++_};
+ghost use Prim.Native.Nat.{ℕ, _+_, _*_, _<_, _≤_};
+ghost use lib.IntN.{ℤ, pos};
 ghost use lib.ListN.{length, take};
-ghost use Rattle.reader.specs.Format.{after, literalsIn};
-ghost use Rattle.reader.specs.Filling.{Room, EdgeRead, AtomRead, ClauseRead, RecordRead, lastIs, oneMore};
+ghost use Rattle.plan.specs.Tables.{edgeOf, atomOf};
+ghost use Rattle.reader.specs.Format.{after, literalsIn, edgeAt, atomAt, clauseAt, endAt, stepAt};
+ghost use Rattle.reader.specs.Filling.{Room, Takes, edgeRow, atomRow, lastIs};
+use crate::Step;
 use crate::fields::atom_in;
+use crate::fields::atom_ok;
 use crate::fields::edge_in;
-use crate::fields::ends_ok;
-use crate::fields::kind_ok;
+use crate::fields::edge_ok;
 use crate::fields::literal;
 use crate::fields::literals_ok;
 use crate::fields::record_fits;
 use crate::fields::word;
-use crate::refusals::BAD_LENGTH;
-use crate::refusals::CUT;
-use crate::refusals::MISPLACED;
-use crate::refusals::NONE;
-use crate::refusals::OUT_OF_RANGE;
-use crate::refusals::SHARED;
-use crate::refusals::TOO_MANY;
-use crate::refusals::UNKNOWN_TAG;
 use plan::Atom;
 use plan::Clause;
 use plan::Edge;
 use plan::Plan;
+use plan::Refusal;
 use plan::wide;
 
-// Writes one row of the edge table; put_atom one of the atom table.
-fn put_edge(table: &mut [u16], row: usize, edge: Edge)
-    requires { ⌜ row + 3 ≤ length (now table) ⌝ }
-    ensures { λ _. ⌜ take (row + 3) (now (table .exit)) ≡ take row (now (table .entry)) ++ (edge .from ∷ edge .to ∷ edge .variable ∷ []) ⌝ }
+// Writes the row of an edge behind n others; put_atom that of an atom.
+fn put_edge(table: &mut [u16], n: usize, edge: Edge)
+    requires { ⌜ (n + 1) * 3 ≤ length (now table) ⌝ }
+    ensures { λ _. ⌜ take ((n + 1) * 3) (now (table .exit)) ≡ take (n * 3) (now (table .entry)) ++ edgeRow (edgeOf edge) ⌝ }
 {
+    let row = n * Edge::NUMBERS;
     table[row] = edge.from;
     table[row + 1] = edge.to;
     table[row + 2] = edge.variable;
 }
 
-fn put_atom(table: &mut [u16], row: usize, atom: Atom)
-    requires { ⌜ row + 5 ≤ length (now table) ⌝ }
-    ensures { λ _. ⌜ take (row + 5) (now (table .exit)) ≡ take row (now (table .entry)) ++ (atom .kind ∷ atom .from ∷ atom .to ∷ atom .bound ∷ atom .variable ∷ []) ⌝ }
+fn put_atom(table: &mut [u16], n: usize, atom: Atom)
+    requires { ⌜ (n + 1) * 5 ≤ length (now table) ⌝ }
+    ensures { λ _. ⌜ take ((n + 1) * 5) (now (table .exit)) ≡ take (n * 5) (now (table .entry)) ++ atomRow (atomOf atom) ⌝ }
 {
+    let row = n * Atom::NUMBERS;
     table[row] = atom.kind;
     table[row + 1] = atom.from;
     table[row + 2] = atom.to;
@@ -66,12 +63,13 @@ fn copy_literals(file: &[u8], from: usize, count: usize, out: &mut [i16], to: us
     out[k] = 0;
 }
 
-// Some row of the table ends in that variable. A row is `before` numbers and the variable behind them.
-fn uses(table: &[u16], before: usize, variable: u16) -> bool
-    ensures { λ r. ⌜ r ≡ lastIs before before (now (table .entry)) variable ⌝ }
+// Some row of the table's used part ends in that variable. A row is `before` numbers and the variable behind them.
+fn uses(table: &[u16], used: usize, before: usize, variable: u16) -> bool
+    requires { ⌜ used ≤ length (now table) ⌝ }
+    ensures { λ r. ⌜ r ≡ lastIs before before (take used (now (table .entry))) variable ⌝ }
 {
     let mut row = 0;
-    while table.len() - row > before {
+    while used - row > before {
         let last = row + before;
         if table[last] == variable {
             return true;
@@ -81,150 +79,134 @@ fn uses(table: &[u16], before: usize, variable: u16) -> bool
     false
 }
 
-// Takes the edge of the record at an offset into its table, and returns NONE; or returns the number of the first refusal
-// that the record meets, in the document's order. take_atom and take_clause do the same for their sorts.
-fn take_edge(file: &[u8], at: usize, counts: Plan, edges: &mut [u16], atoms: &[u16]) -> u8
-    requires { ⌜ (after (now file) at ≤ length (now file)) × Room counts × (length (now edges) ≡ 768) × (length (now atoms) ≡ 320) ⌝ }
-    ensures { λ r. ⌜ EdgeRead (now (file .entry)) at counts (now (edges .entry)) (now (atoms .entry)) r (now (edges .exit)) ⌝ }
+// Takes the edge of the record at an offset into its table; or refuses it by the first refusal that the record meets, in the
+// document's order. The others do the same for their sorts.
+fn take_edge(
+    file: &[u8],
+    at: usize,
+    counts: Plan,
+    edges: &mut [u16; Edge::TABLE],
+    atoms: &[u16; Atom::TABLE],
+) -> Step
+    requires { ⌜ (after (now file) at ≤ length (now file)) × Room counts ⌝ }
+    ensures { λ r. ⌜ ((cs : List ℤ) → Takes (edgeAt (now (file .entry)) at) counts (now (edges .entry)) (now (atoms .entry)) cs r (now (edges .exit)) (now (atoms .entry)) cs) ⌝ }
 {
     if word(file, at + 1) != 6 {
-        return BAD_LENGTH;
+        return Step::Refuse(Refusal::BadLength(at));
     }
     let edge = edge_in(file, at);
-    if !ends_ok(
-        counts.nodes,
-        counts.variables,
-        edge.from,
-        edge.to,
-        edge.variable,
-    ) {
-        return OUT_OF_RANGE;
+    if !edge_ok(counts, edge) {
+        return Step::Refuse(Refusal::OutOfRange(at));
     }
     let n = counts.edges;
     if n >= Plan::MAX_EDGES {
-        return TOO_MANY;
+        return Step::Refuse(Refusal::TooMany(at));
     }
     let used = counts.atoms * Atom::NUMBERS;
-    if uses(&atoms[..used], 4, edge.variable) {
-        return SHARED;
+    if uses(atoms, used, 4, edge.variable) {
+        return Step::Refuse(Refusal::Shared(at));
     }
-    put_edge(edges, n * Edge::NUMBERS, edge);
-    NONE
+    put_edge(edges, n, edge);
+    let mut next = counts;
+    next.edges = n + 1;
+    Step::Next(at + 9, next)
 }
 
-fn take_atom(file: &[u8], at: usize, counts: Plan, edges: &[u16], atoms: &mut [u16]) -> u8
-    requires { ⌜ (after (now file) at ≤ length (now file)) × Room counts × (length (now edges) ≡ 768) × (length (now atoms) ≡ 320) ⌝ }
-    ensures { λ r. ⌜ AtomRead (now (file .entry)) at counts (now (edges .entry)) (now (atoms .entry)) r (now (atoms .exit)) ⌝ }
+fn take_atom(
+    file: &[u8],
+    at: usize,
+    counts: Plan,
+    edges: &[u16; Edge::TABLE],
+    atoms: &mut [u16; Atom::TABLE],
+) -> Step
+    requires { ⌜ (after (now file) at ≤ length (now file)) × Room counts ⌝ }
+    ensures { λ r. ⌜ ((cs : List ℤ) → Takes (atomAt (now (file .entry)) at) counts (now (edges .entry)) (now (atoms .entry)) cs r (now (edges .entry)) (now (atoms .exit)) cs) ⌝ }
 {
     if word(file, at + 1) != 9 {
-        return BAD_LENGTH;
+        return Step::Refuse(Refusal::BadLength(at));
     }
     let atom = atom_in(file, at);
-    if !kind_ok(atom.kind, atom.bound) {
-        return OUT_OF_RANGE;
-    }
-    if !ends_ok(
-        counts.nodes,
-        counts.variables,
-        atom.from,
-        atom.to,
-        atom.variable,
-    ) {
-        return OUT_OF_RANGE;
+    if !atom_ok(counts, atom) {
+        return Step::Refuse(Refusal::OutOfRange(at));
     }
     let n = counts.atoms;
     if n >= Atom::MAX {
-        return TOO_MANY;
+        return Step::Refuse(Refusal::TooMany(at));
     }
     let used = counts.edges * Edge::NUMBERS;
-    if uses(&edges[..used], 2, atom.variable) {
-        return SHARED;
+    if uses(edges, used, 2, atom.variable) {
+        return Step::Refuse(Refusal::Shared(at));
     }
-    put_atom(atoms, n * Atom::NUMBERS, atom);
-    NONE
+    put_atom(atoms, n, atom);
+    let mut next = counts;
+    next.atoms = n + 1;
+    Step::Next(at + 12, next)
 }
 
-fn take_clause(file: &[u8], at: usize, counts: Plan, clauses: &mut [i16]) -> u8
-    requires { ⌜ (after (now file) at ≤ length (now file)) × Room counts × (length (now clauses) ≡ 5120) ⌝ }
-    ensures { λ r. ⌜ ClauseRead (now (file .entry)) at counts (now (clauses .entry)) r (now (clauses .exit)) ⌝ }
+fn take_clause(file: &[u8], at: usize, counts: Plan, clauses: &mut [i16; Clause::TABLE]) -> Step
+    requires { ⌜ (after (now file) at ≤ length (now file)) × Room counts ⌝ }
+    ensures { λ r. ⌜ ((es bs : List ℕ) → Takes (clauseAt (now (file .entry)) at) counts es bs (now (clauses .entry)) r es bs (now (clauses .exit))) ⌝ }
 {
     let len = wide(word(file, at + 1));
     if len < 2 {
-        return BAD_LENGTH;
+        return Step::Refuse(Refusal::BadLength(at));
     }
     let n = len / 2;
     if n * 2 != len {
-        return BAD_LENGTH;
+        return Step::Refuse(Refusal::BadLength(at));
     }
     if !literals_ok(file, at + 3, n, counts.variables) {
-        return OUT_OF_RANGE;
+        return Step::Refuse(Refusal::OutOfRange(at));
     }
     if counts.clauses >= Clause::MAX {
-        return TOO_MANY;
+        return Step::Refuse(Refusal::TooMany(at));
     }
     if counts.literals + n > Clause::MAX_LITERALS {
-        return TOO_MANY;
+        return Step::Refuse(Refusal::TooMany(at));
     }
     copy_literals(file, at + 3, n, clauses, counts.literals + counts.clauses);
-    NONE
+    let mut next = counts;
+    next.clauses += 1;
+    next.literals += n;
+    Step::Next(at + 3 + len, next)
 }
 
-// The same for a record of any sort. What follows an end record is looked at by `end`.
+// Behind an end record the file ends.
+fn take_end(file: &[u8], at: usize, counts: Plan) -> Step
+    requires { ⌜ after (now file) at ≤ length (now file) ⌝ }
+    ensures { λ r. ⌜ ((es bs : List ℕ) (cs : List ℤ) → Takes (endAt (now (file .entry)) at) counts es bs cs r es bs cs) ⌝ }
+{
+    if word(file, at + 1) != 0 {
+        return Step::Refuse(Refusal::BadLength(at));
+    }
+    let end = at + 3;
+    if file.len() != end {
+        return Step::Refuse(Refusal::Misplaced(end));
+    }
+    Step::Done(counts)
+}
+
+// A record of any sort behind the head.
 pub fn take_record(
     file: &[u8],
     at: usize,
     counts: Plan,
-    edges: &mut [u16],
-    atoms: &mut [u16],
-    clauses: &mut [i16],
-) -> u8
-    requires { ⌜ (at ≤ length (now file)) × Room counts × (length (now edges) ≡ 768) × (length (now atoms) ≡ 320) × (length (now clauses) ≡ 5120) ⌝ }
-    ensures { λ r. ⌜ RecordRead (now (file .entry)) at counts (now (edges .entry)) (now (atoms .entry)) (now (clauses .entry)) r (now (edges .exit)) (now (atoms .exit)) (now (clauses .exit)) ⌝ }
+    edges: &mut [u16; Edge::TABLE],
+    atoms: &mut [u16; Atom::TABLE],
+    clauses: &mut [i16; Clause::TABLE],
+) -> Step
+    requires { ⌜ (at ≤ length (now file)) × Room counts ⌝ }
+    ensures { λ r. ⌜ Takes (stepAt (now (file .entry)) at) counts (now (edges .entry)) (now (atoms .entry)) (now (clauses .entry)) r (now (edges .exit)) (now (atoms .exit)) (now (clauses .exit)) ⌝ }
 {
     if !record_fits(file, at) {
-        return CUT;
+        return Step::Refuse(Refusal::Cut(at));
     }
-    let tag = file[at];
-    if tag == 1 {
-        return MISPLACED;
+    match file[at] {
+        1 => Step::Refuse(Refusal::Misplaced(at)),
+        2 => take_edge(file, at, counts, edges, atoms),
+        3 => take_atom(file, at, counts, edges, atoms),
+        4 => take_clause(file, at, counts, clauses),
+        5 => take_end(file, at, counts),
+        _ => Step::Refuse(Refusal::UnknownTag(at)),
     }
-    if tag == 2 {
-        return take_edge(file, at, counts, edges, atoms);
-    }
-    if tag == 3 {
-        return take_atom(file, at, counts, edges, atoms);
-    }
-    if tag == 4 {
-        return take_clause(file, at, counts, clauses);
-    }
-    if tag != 5 {
-        return UNKNOWN_TAG;
-    }
-    if word(file, at + 1) != 0 {
-        return BAD_LENGTH;
-    }
-    NONE
-}
-
-// The counts with the record at an offset.
-pub fn one_more(file: &[u8], at: usize, counts: Plan) -> Plan
-    requires { ⌜ (after (now file) at ≤ length (now file)) × Room counts ⌝ }
-    ensures { λ r. ⌜ r ≡ oneMore (now (file .entry)) at counts ⌝ }
-{
-    let tag = file[at];
-    let mut next = counts;
-    if tag == 2 {
-        next.edges += 1;
-        return next;
-    }
-    if tag == 3 {
-        next.atoms += 1;
-        return next;
-    }
-    if tag == 4 {
-        next.clauses += 1;
-        next.literals += wide(word(file, at + 1)) / 2;
-        return next;
-    }
-    next
 }

@@ -1,14 +1,8 @@
-use mathlib.Core.Path.{_≡_, refl, sym, ap, _∙_}
-use mathlib.Core.Bool.{true}
-use mathlib.Core.List.{List}
-use native.Mathlib.Omega.{arith}
-use Prim.Native.Nat.{ℕ, _≤_}
-use lib.Dec.{leb, eqb}
-use lib.ListN.{length}
-use borrow.Author.Needs.{needs}
-use borrow.Author.Tests.{lt-leb, le-leb, eq-eqb, ne-eqb, not-true, not-false}
+-- `head` leads where the definition does: each way out by the tests on the way to it.
+use Rattle.reader.proofs.Kit.{_≡_, refl, sym, _∙_, true, List, ℕ, _≤_, arith, needs, lt-leb, le-leb, eq-eqb, ne-eqb, not-true, not-false, leb, eqb, length}
 use Rattle.reader.specs.Format.{fits, tagAt, lenAt, after, headOk, headAt, word}
-use Rattle.reader.proofs.Steps.{fits-is, head-stops}
+use Rattle.reader.specs.Filling.{refuses, leads}
+use Rattle.reader.proofs.Steps.{fits-is, empty-tables}
 use Rattle.reader.proofs.head.Statement.{statement}
 use Rattle.reader.proofs.head.Tie as tie
 
@@ -41,62 +35,51 @@ module _ (c : tie.After-head-ok) where
   fourth = c .before .before .before
 
   range-is : headOk (word (file (second fourth)) 3) (word (file (second fourth)) 5) ≡ c .head-ok .result
-  range-is =
-      sym (c .head-ok .ensures ∙ ap (λ n. headOk n (c .before .word3 .result)) (c .before .before .word2 .ensures) ∙ ap (headOk _) (c .before .word3 .ensures))
-
-returns : tie.Need-returns
-unfolding headAt
-returns c = head-stops _ 1 (omega arith) (omega arith) (simp (lt-leb _ 16384 (c .if1 .taken)))
+  range-is = sym (c .head-ok .ensures ∙ simp (c .before .before .word2 .ensures, c .before .word3 .ensures))
 
 returns-2 : tie.Need-returns-2
 unfolding headAt
-returns-2 c =
-    head-stops _ 2 (omega arith) (omega arith)
-    (simp (le-leb _ 16384 (c .before .before .if1 .left), sym (c .before .record-fits .ensures) ∙ not-true _ (c .if2 .taken)))
-
-returns-3 : tie.Need-returns-3
-unfolding headAt
-returns-3 c =
-    let d = c .before .before in
-    head-stops _ 3 (omega arith) (omega arith) (simp (short d, fitting d, ne-eqb _ 1 (c .if3 .taken)))
+returns-2 c = λ es bs cs.
+    rw (le-leb _ 16384 (c .before .before .if1 .left), sym (c .before .record-fits .ensures) ∙ not-true _ (c .if2 .taken)) (refuses refl refl)
 
 returns-4 : tie.Need-returns-4
 unfolding headAt
-returns-4 c =
+returns-4 c = λ es bs cs.
     let d = c .before .before .before .before in
-    head-stops _ 5 (omega arith) (omega arith)
-    (simp (short d, fitting d, eq-eqb _ 1 (c .before .before .if3 .left), ne-eqb _ 4 (λ e. c .if4 .taken (c .before .word .ensures ∙ e))))
+    rw (short d, fitting d, eq-eqb _ 1 (c .before .before .if3 .left), ne-eqb _ 4 (λ e. c .if4 .taken (c .before .word .ensures ∙ e))) (refuses refl refl)
 
 returns-5 : tie.Need-returns-5
 unfolding headAt
-returns-5 c =
+returns-5 c = λ es bs cs.
     let e = fourth (c .before) in
     let d = second e in
-    head-stops _ 6 (omega arith) (omega arith)
-    (simp (short d, fitting d, first e, eq-eqb _ 4 (four e), range-is (c .before) ∙ not-true _ (c .if5 .taken)))
+    rw (short d, fitting d, first e, eq-eqb _ 4 (four e), range-is (c .before) ∙ not-true _ (c .if5 .taken)) (refuses refl refl)
 
 returns-6 : tie.Need-returns-6
 unfolding headAt
-returns-6 c =
+returns-6 c = λ es bs cs.
     let e = fourth (c .before) in
     let d = second e in
-    let r = range-is (c .before) ∙ not-false _ (c .if5 .left) in
-    record {
-      number = λ n. absurd (n refl);
-      fit = λ z. omega (arith, within d, four e);
-      range = λ z. r;
-      step = simp (short d, fitting d, first e, eq-eqb _ 4 (four e), r);
-    }
+    rw (
+      short d,
+      fitting d,
+      first e,
+      eq-eqb _ 4 (four e),
+      range-is (c .before) ∙ not-false _ (c .if5 .left),
+      ← c .before .before .before .word2 .ensures,
+      ← c .before .before .word3 .ensures,
+    ) (leads refl (empty-tables _ _ es bs cs))
 
 pub head-spec : {M : Type 1} → statement M
+unfolding headAt
 head-spec =
     tie.close
     (tie.spec
-    returns
+    (λ c es bs cs. rw (lt-leb _ 16384 (c .if1 .taken)) (refuses refl refl))
     (λ c κs. search needs)
     returns-2
     (λ c. omega (arith, within (c .before)))
-    returns-3
+    (λ c es bs cs. let d = c .before .before in rw (short d, fitting d, ne-eqb _ 1 (c .if3 .taken)) (refuses refl refl))
     (λ c κs. omega (arith, within (c .before .before)))
     returns-4
     (λ c κs. omega (arith, within (second c), four c))

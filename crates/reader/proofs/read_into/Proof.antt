@@ -1,43 +1,45 @@
-use mathlib.Core.Path.{sym, subst}
-use borrow.Author.Needs.{needs}
-use Rattle.reader.specs.Filling.{Room}
-use Rattle.reader.proofs.Loop.{read-refused, read-rest, start-room}
+-- `read_into` answers with what the file reads as: each step of the code is one of the definition.
+use Rattle.reader.proofs.Kit.{_-_, needs}
+use Rattle.reader.proofs.Exact.{room-of}
+use Rattle.reader.proofs.Loop.{left, Reached, begins, answers-refused, answers-accepted, standing, goes-on, falls}
 use Rattle.reader.proofs.read_into.Statement.{statement}
 use Rattle.reader.proofs.read_into.Tie as tie
 
-returns : tie.Need-returns
-returns c =
-    let a = c .before .before .before .before .before .before .args in
-    read-refused (a .file .now) (c .before .before .head .ensures) (c .before .if1 .taken) (c .refused .result) (c .refused .ensures)
-    (a .edges .now) (a .atoms .now) (a .clauses .now)
+abbrev Inv-loop : tie.InvT-loop
+Inv-loop file edges₀ atoms₀ clauses₀ step₀ edges atoms clauses step = Reached file step edges atoms clauses
 
-read-records-requires : tie.Need-read-records-requires
-read-records-requires c κs =
+abbrev μ-loop : tie.MeasureT-loop
+μ-loop file edges₀ atoms₀ clauses₀ step₀ edges atoms clauses step = left file step
+
+take-record-requires : tie.Need-take-record-requires Inv-loop μ-loop
+take-record-requires c κs =
     let d = c .before .before .before in
-    let e = d .before in
-    let s = e .before .before .before .before .before in
-    let h = e .before .head .ensures in
-    (h .fit (e .if1 .left), subst Room (sym (d .start .ensures)) (start-room (s .args .file .now) (h .range (e .if1 .left))), s .pre .0, s .pre .1, s .pre .2)
+    let w = standing (d .before .before .before .loop .inv) (d .before .step3 .given .1) in
+    (w .within, room-of (w .ranged) (w .tables))
 
-returns-2 : tie.Need-returns-2
-returns-2 c =
-    let m = c .before .before .before .before .before in
-    let d = m .before .before .before .before in
-    let e = d .before in
-    let a = e .before .before .before .before .before .args in
-    read-rest (a .file .now) (e .before .head .ensures) (e .if1 .left) (a .edges .now) (a .atoms .now) _ _ (a .clauses .now) _ _
-    (rw (← d .start .ensures) (m .read-records .ensures))
+loop-less : tie.Need-loop-less Inv-loop μ-loop
+loop-less c =
+    let d = c .before .before .before .before .before in
+    rw (d .step3 .given .1) (falls (standing (d .before .before .loop .inv) (d .step3 .given .1)) _ _ _ _ (c .take-record .ensures))
+
+loop-again : tie.Need-loop-again Inv-loop μ-loop
+loop-again c =
+    let d = c .before .before .before .before .before in
+    goes-on (standing (d .before .before .loop .inv) (d .step3 .given .1)) _ _ _ _ (c .take-record .ensures)
 
 pub read-into-spec : {M : Type 1} → statement M
 read-into-spec =
     tie.close
     (tie.spec
+    Inv-loop
+    μ-loop
     (λ c κs. search needs)
-    (λ c κs. c .before .head .ensures .number (c .if1 .taken))
-    returns
-    (λ c κs. c .before .head .ensures .fit (c .if1 .left))
-    read-records-requires
+    (λ c. begins _ (c .head .ensures _ _ _))
     (λ c. search needs)
+    (λ c. answers-refused (c .before .before .before .loop .inv) (c .before .step .given .1))
     (λ c. search needs)
+    (λ c. answers-accepted (c .before .before .before .loop .inv) (c .before .step2 .given .1))
     (λ c. search needs)
-    returns-2)
+    take-record-requires
+    loop-less
+    loop-again)

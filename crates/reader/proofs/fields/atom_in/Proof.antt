@@ -1,12 +1,7 @@
-use Prim.Native.Nat.{_+_}
-use native.Mathlib.Omega.{arith}
-use borrow.Author.Needs.{needs}
-use lib.ListN.{getD}
+-- `atom_in` reads the five numbers of an atom.
+use Rattle.reader.proofs.Kit.{_+_, arith, needs, getD}
 use Rattle.reader.proofs.fields.atom_in.Statement.{statement}
 use Rattle.reader.proofs.fields.atom_in.Tie as tie
-
-cast-t6 : tie.Need-cast-t6
-cast-t6 c = omega (arith, c .shared-slice-known2 .given (c .before .before .args .at + 3))
 
 returns : tie.Need-returns
 returns c =
@@ -25,7 +20,7 @@ atom-in-spec =
     (tie.spec
     (λ c. search needs)
     (λ c. search needs)
-    cast-t6
+    (λ c. omega (arith, c .shared-slice-known2 .given (c .before .before .args .at + 3)))
     (λ c. search needs)
     (λ c κs. search needs)
     (λ c. search needs)

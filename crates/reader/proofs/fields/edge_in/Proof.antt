@@ -1,9 +1,7 @@
-use borrow.Author.Needs.{needs}
+-- `edge_in` reads the three numbers of an edge.
+use Rattle.reader.proofs.Kit.{needs}
 use Rattle.reader.proofs.fields.edge_in.Statement.{statement}
 use Rattle.reader.proofs.fields.edge_in.Tie as tie
-
-returns : tie.Need-returns
-returns c = λ i. record { from = c .before .before .word .ensures i; to = c .before .word2 .ensures i; variable = c .word3 .ensures i }
 
 pub edge-in-spec : {M : Type 1} → statement M
 edge-in-spec =
@@ -15,4 +13,4 @@ edge-in-spec =
     (λ c κs. search needs)
     (λ c. search needs)
     (λ c κs. search needs)
-    returns)
+    (λ c i. record { from = c .before .before .word .ensures i; to = c .before .word2 .ensures i; variable = c .word3 .ensures i }))

@@ -1,23 +1,15 @@
-use borrow.Author.Tests.{lt-ltb, le-ltb, lt-leb, le-leb}
+-- `ends_ok` makes the definition's tests of a record's two nodes and its variable.
+use Rattle.reader.proofs.Kit.{lt-ltb, le-ltb, lt-leb, le-leb}
 use Rattle.reader.specs.Format.{endsOk}
 use Rattle.reader.proofs.fields.ends_ok.Statement.{statement}
 use Rattle.reader.proofs.fields.ends_ok.Tie as tie
 
-returns : tie.Need-returns
-unfolding endsOk
-returns c = simp (le-ltb _ _ (c .if1 .taken))
-
-returns-2 : tie.Need-returns-2
-unfolding endsOk
-returns-2 c = simp (lt-ltb _ _ (c .before .if1 .left), le-ltb _ _ (c .if2 .taken))
-
-returns-3 : tie.Need-returns-3
-unfolding endsOk
-returns-3 c = simp (lt-ltb _ _ (c .before .before .if1 .left), lt-ltb _ _ (c .before .if2 .left), lt-leb 1 _ (c .if3 .taken))
-
 returns-4 : tie.Need-returns-4
 unfolding endsOk
-returns-4 c = simp (lt-ltb _ _ (c .before .before .if1 .left), lt-ltb _ _ (c .before .if2 .left), le-leb 1 _ (c .if3 .left))
+returns-4 c =
+    let d = c .before in
+    simp (lt-ltb _ _ (d .before .before .before .if1 .left), lt-ltb _ _ (d .before .if2 .left), le-leb 1 _ (d .if3 .left))
 
 pub ends-ok-spec : {M : Type 1} → statement M
-ends-ok-spec = tie.close (tie.spec returns returns-2 returns-3 returns-4)
+unfolding endsOk
+ends-ok-spec = tie.close (tie.spec (λ c. simp (le-ltb _ _ (c .if1 .taken))) (λ c. simp (lt-ltb _ _ (c .before .before .if1 .left), le-ltb _ _ (c .if2 .taken))) (λ c. simp (lt-ltb _ _ (c .before .before .before .if1 .left), lt-ltb _ _ (c .before .if2 .left), lt-leb 1 _ (c .if3 .taken))) returns-4)

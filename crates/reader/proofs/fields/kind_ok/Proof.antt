@@ -1,19 +1,14 @@
-use Rattle.reader.proofs.Bits.{kind-one, kind-two}
-use mathlib.Core.Path.{sym}
-use borrow.Author.Tests.{ne-eqb}
+-- `kind_ok` makes the definition's test of a kind and its bound.
+use Rattle.reader.proofs.Kit.{or-false, ne-eqb}
 use Rattle.reader.specs.Format.{kindOk}
 use Rattle.reader.proofs.fields.kind_ok.Statement.{statement}
 use Rattle.reader.proofs.fields.kind_ok.Tie as tie
 
-returns : tie.Need-returns
-returns c = sym (kind-one _ _ (c .if1 .taken))
-
-returns-2 : tie.Need-returns-2
-returns-2 c = sym (kind-two _ _ (c .if2 .taken))
-
-returns-3 : tie.Need-returns-3
-unfolding kindOk
-returns-3 c = simp (ne-eqb _ 1 (c .before .if1 .left), ne-eqb _ 2 (c .if2 .left))
-
 pub kind-ok-spec : {M : Type 1} → statement M
-kind-ok-spec = tie.close (tie.spec returns returns-2 returns-3)
+unfolding kindOk
+kind-ok-spec =
+    tie.close
+    (tie.spec
+    (λ c. simp (c .if1 .taken, or-false))
+    (λ c. simp (c .if2 .taken))
+    (λ c. simp (ne-eqb _ 1 (c .before .if1 .left), ne-eqb _ 2 (c .if2 .left))))

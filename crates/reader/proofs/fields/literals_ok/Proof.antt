@@ -1,10 +1,5 @@
-use mathlib.Core.Path.{_≡_, refl, sym, ap, _∙_}
-use mathlib.Core.List.{List, _∷_}
-use native.Mathlib.Omega.{arith}
-use Prim.Native.Nat.{ℕ, _+_, _-_, _*_}
-use lib.IntN.{ℤ}
-use borrow.Author.Needs.{needs}
-use borrow.Author.Tests.{not-true, not-false}
+-- `literals_ok` tests every literal: those passed are in range, and those left decide.
+use Rattle.reader.proofs.Kit.{_≡_, refl, sym, ap, _∙_, List, _∷_, ℕ, _+_, _-_, _*_, arith, needs, not-true, not-false, ℤ}
 use Rattle.reader.specs.Format.{word, twos, literalOk, literalsOk, literalsIn}
 use Rattle.reader.proofs.Rows.{literals-step, literals-none, literals-ok-step, literals-ok-stop, literals-ok-none}
 use Rattle.reader.proofs.fields.literals_ok.Statement.{statement}
@@ -43,12 +38,6 @@ module _ (c : tie.After-literal-ok Inv-loop μ-loop) where
   all : literalsOk variables (twos (word file at) ∷ behind) ≡ literalsOk variables (literalsIn file (entry .args .from) (entry .args .count))
   all = ap (literalsOk variables) (sym (literals-step file at (turn .loop .left) (omega arith))) ∙ turn .loop .inv .1
 
-returns : tie.Need-returns Inv-loop μ-loop
-returns c = let d = c .before in sym (literals-ok-stop (variables d) _ (behind d) (tested d ∙ not-true _ (c .if1 .taken))) ∙ all d
-
-loop-again : tie.Need-loop-again Inv-loop μ-loop
-loop-again c = let d = c .before in (omega arith, sym (literals-ok-step (variables d) _ (behind d) (tested d ∙ not-false _ (c .if1 .left))) ∙ all d)
-
 returns-2 : tie.Need-returns-2 Inv-loop μ-loop
 returns-2 c =
     let a = c .before .before .before .args in
@@ -64,9 +53,9 @@ literals-ok-spec =
     (λ c. (refl, refl))
     (λ c κs. omega arith)
     (λ c κs. search needs)
-    returns
+    (λ c. let d = c .before in sym (literals-ok-stop (variables d) _ (behind d) (tested d ∙ not-true _ (c .if1 .taken))) ∙ all d)
     (λ c. omega arith)
     (λ c. omega arith)
     (λ c. omega arith)
-    loop-again
+    (λ c. let d = c .before in (omega arith, sym (literals-ok-step (variables d) _ (behind d) (tested d ∙ not-false _ (c .if1 .left))) ∙ all d))
     returns-2)

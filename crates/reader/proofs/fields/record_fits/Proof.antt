@@ -1,41 +1,30 @@
-use mathlib.Core.Path.{_∙_}
-use native.Mathlib.Omega.{arith}
-use Prim.Native.Nat.{_+_}
-use lib.ListN.{length}
-use borrow.Author.Needs.{needs}
-use borrow.Author.Tests.{lt-leb, le-leb}
+-- `record_fits` makes the definition's two tests of a record's room, by differences that do not wrap.
+use Rattle.reader.proofs.Kit.{_≡_, sym, ap, _∙_, List, ℕ, _+_, arith, needs, lt-leb, le-leb, length}
 use Rattle.reader.specs.Format.{fits, after}
 use Rattle.reader.proofs.fields.record_fits.Statement.{statement}
 use Rattle.reader.proofs.fields.record_fits.Tie as tie
 
-returns : tie.Need-returns
-unfolding fits
-returns c = let a = c .before .before .args in simp (lt-leb (a .at + 3) (length (a .file .now)) (omega arith))
+module _ (c : tie.After-wide) where
+  abbrev file : List ℕ
+  file = c .before .before .before .before .args .file .now
 
-returns-2 : tie.Need-returns-2
-unfolding fits
-returns-2 c =
-    let a = c .before .before .before .before .before .args in
-    let l = c .before .wide .ensures ∙ c .before .before .word .ensures in
-    simp (le-leb (a .at + 3) (length (a .file .now)) (omega arith), lt-leb (after (a .file .now) (a .at)) (length (a .file .now)) (omega (arith, l)))
+  abbrev at : ℕ
+  at = c .before .before .before .before .args .at
 
-returns-3 : tie.Need-returns-3
-unfolding fits
-returns-3 c =
-    let a = c .before .before .before .before .before .args in
-    let l = c .before .wide .ensures ∙ c .before .before .word .ensures in
-    simp (le-leb (a .at + 3) (length (a .file .now)) (omega arith), le-leb (after (a .file .now) (a .at)) (length (a .file .now)) (omega (arith, l)))
+  behind : after file at ≡ at + 3 + c .wide .result
+  behind = ap (λ n. at + 3 + n) (sym (c .wide .ensures ∙ c .before .word .ensures))
 
 pub record-fits-spec : {M : Type 1} → statement M
+unfolding fits
 record-fits-spec =
     tie.close
     (tie.spec
     (λ c. search needs)
-    returns
+    (λ c. let a = c .before .before .args in simp (lt-leb (a .at + 3) (length (a .file .now)) (omega arith)))
     (λ c. search needs)
     (λ c. search needs)
     (λ c. search needs)
     (λ c κs. search needs)
     (λ c κs. search needs)
-    returns-2
-    returns-3)
+    (λ c. let d = c .before in simp (le-leb (at d + 3) (length (file d)) (omega arith), lt-leb (after (file d) (at d)) (length (file d)) (omega (arith, behind d))))
+    (λ c. let d = c .before in simp (le-leb (at d + 3) (length (file d)) (omega arith), le-leb (after (file d) (at d)) (length (file d)) (omega (arith, behind d)))))

@@ -1,14 +1,9 @@
-use mathlib.Core.Path.{_≡_, refl, sym, ap, _∙_}
-use mathlib.Core.List.{List, _∷_, _++_, append-nil}
-use native.Mathlib.Omega.{arith}
-use Prim.Native.Nat.{ℕ, _+_, _-_, _*_, _<_}
-use lib.IntN.{ℤ, pos}
-use lib.ListN.{length, take, length-set}
+-- `copy_literals` writes the literals and a 0: those written and those left are all of them.
+use Rattle.reader.proofs.Kit.{_≡_, refl, sym, ap, _∙_, List, _∷_, _++_, append-nil, ℕ, _+_, _-_, _*_, _<_, arith, needs, ℤ, pos, length, take, length-set}
 use lib.Seq.{append-snoc}
 use mir.Facts.{toZ-ofZ}
 use mir.Val.{toZ, ofZ}
 use mir.Syntax.{w16}
-use borrow.Author.Needs.{needs}
 use Rattle.reader.specs.Format.{twos, word, literalsIn}
 use Rattle.reader.proofs.Rows.{literals-step, literals-none, put-next}
 use Rattle.reader.proofs.records.copy_literals.Statement.{statement}

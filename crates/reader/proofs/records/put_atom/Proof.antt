@@ -1,28 +1,13 @@
-use lib.ListN.{length-set}
-use native.Mathlib.Omega.{arith}
-use mathlib.Core.List.{[], _∷_}
-use mathlib.Core.Path.{refl}
-use borrow.Author.Needs.{needs}
+-- `put_atom` writes an atom's row behind those that stand there.
+use Rattle.reader.proofs.Kit.{refl, [], _∷_, _+_, _*_, arith, needs, length-set}
 use Rattle.reader.proofs.Rows.{put-row}
 use Rattle.reader.proofs.records.put_atom.Statement.{statement}
 use Rattle.reader.proofs.records.put_atom.Tie as tie
 
-slice-write-table-2 : tie.Need-slice-write-table-2
-slice-write-table-2 c = simp length-set (omega arith)
-
-slice-write-table-3 : tie.Need-slice-write-table-3
-slice-write-table-3 c = simp length-set (omega arith)
-
-slice-write-table-4 : tie.Need-slice-write-table-4
-slice-write-table-4 c = simp length-set (omega arith)
-
-slice-write-table-5 : tie.Need-slice-write-table-5
-slice-write-table-5 c = simp length-set (omega arith)
-
 returns : tie.Need-returns
 returns c =
     let a = c .args .atom in
-    put-row (c .args .table .now) (c .args .row) 5 (a .kind) (a .from ∷ a .to ∷ a .bound ∷ a .variable ∷ []) refl (c .pre)
+    put-row (c .args .table .now) (c .args .n * 5) 5 ((c .args .n + 1) * 5) (a .kind) (a .from ∷ a .to ∷ a .bound ∷ a .variable ∷ []) refl (omega arith) (c .pre)
 
 pub put-atom-spec : {M : Type 1} → statement M
 put-atom-spec =
@@ -32,15 +17,16 @@ put-atom-spec =
     (λ c. search needs)
     (λ c. search needs)
     (λ c. search needs)
-    slice-write-table-2
+    (λ c. search needs)
+    (λ c. simp length-set (omega arith))
     (λ c. search needs)
     (λ c. search needs)
-    slice-write-table-3
+    (λ c. simp length-set (omega arith))
     (λ c. search needs)
     (λ c. search needs)
-    slice-write-table-4
+    (λ c. simp length-set (omega arith))
     (λ c. search needs)
     (λ c. search needs)
-    slice-write-table-5
+    (λ c. simp length-set (omega arith))
     (λ c. search needs)
     returns)

@@ -1,105 +1,103 @@
-use mathlib.Core.Path.{_≡_, sym, ap, _∙_}
-use mathlib.Core.Bool.{Bool, true}
-use mathlib.Core.List.{List}
-use native.Mathlib.Omega.{arith}
-use Prim.Native.Nat.{ℕ, _+_, _/_, _≤_}
-use lib.Dec.{ltb}
-use borrow.Author.Needs.{needs}
-use borrow.Author.Tests.{not-true, not-false, eq-eqb, ne-eqb, lt-ltb, le-ltb, lt-leb, le-leb}
+-- `take_clause` leads where the definition does: each way out by the tests on the way to it.
+use Rattle.reader.proofs.Kit.{_≡_, refl, sym, ap, _∙_, true, List, ℕ, _+_, _/_, _<_, arith, needs, lt-ltb, le-ltb, lt-leb, le-leb, eq-eqb, ne-eqb, not-true, not-false, ltb, leb}
+use Rattle.plan.specs.declared.Plan as counted
 use Rattle.reader.specs.Format.{lenAt, clauseIn, clauseLen, literalsIn, literalsOk}
-use Rattle.reader.specs.Filling.{ClauseRead}
-use Rattle.reader.proofs.Steps.{clauseFault, clause-took}
+use Rattle.reader.specs.Filling.{refuses, leads}
+use Rattle.reader.proofs.Steps.{clause-step, clause-tables}
 use Rattle.reader.proofs.records.take_clause.Statement.{statement}
 use Rattle.reader.proofs.records.take_clause.Tie as tie
-
-module _ (c : tie.Start) where
-  abbrev file : List ℕ
-  file = c .args .file .now
-
-  abbrev at : ℕ
-  at = c .args .at
-
-  abbrev inRange : ℕ → Bool
-  inRange n = literalsOk (c .args .counts .variables) (literalsIn file (at + 3) n)
-
-  stopped : (r : ℕ) → 1 ≤ r → r ≡ clauseFault file at (c .args .counts) → ClauseRead file at (c .args .counts) (c .args .clauses .now) r (c .args .clauses .now)
-  stopped r l e = clause-took file at (c .args .counts) r (c .pre .1) (c .args .clauses .now) _ e (λ z. absurd (omega arith))
 
 -- the tests, as the definition's
 module _ (c : tie.After-wide) where
   abbrev entry : tie.Start
   entry = c .before .before .before
 
-  len-is : c .wide .result ≡ lenAt (file entry) (at entry)
+  abbrev file : List ℕ
+  file = entry .args .file .now
+
+  abbrev at : ℕ
+  at = entry .args .at
+
+  abbrev counts : counted.Plan
+  counts = entry .args .counts
+
+  len-is : c .wide .result ≡ lenAt file at
   len-is = c .wide .ensures ∙ c .before .word .ensures
 
-module _ (c : tie.Else2) where
-  abbrev measured : tie.After-wide
-  measured = c .before .before
-
-  long : clauseLen (lenAt (file (entry measured)) (at (entry measured))) ≡ true
-  unfolding clauseLen
-  long = simp (← len-is measured, le-leb 2 _ (c .before .if1 .left), eq-eqb _ _ (c .if2 .left))
-
 module _ (c : tie.After-literals-ok) where
-  abbrev first : tie.Else2
-  first = c .before
+  abbrev measured : tie.After-wide
+  measured = c .before .before .before
 
-  abbrev begin : tie.Start
-  begin = entry (measured first)
+  long : clauseLen (lenAt (file measured) (at measured)) ≡ true
+  unfolding clauseLen
+  long = simp (← len-is measured, le-leb 2 _ (c .before .before .if1 .left), eq-eqb _ _ (c .before .if2 .left))
 
-  ranged : literalsOk (begin .args .counts .variables) (clauseIn (file begin) (at begin)) ≡ c .literals-ok .result
-  ranged = sym (c .literals-ok .ensures ∙ ap (λ n. inRange begin (n / 2)) (len-is (measured first)))
+  ranged : literalsOk (counts measured .variables) (clauseIn (file measured) (at measured)) ≡ c .literals-ok .result
+  ranged = sym (c .literals-ok .ensures ∙ ap (λ n. literalsOk (counts measured .variables) (literalsIn (file measured) (at measured + 3) (n / 2))) (len-is measured))
 
 module _ (c : tie.Else4) where
-  abbrev second : tie.After-literals-ok
-  second = c .before .before .before
+  abbrev tested : tie.After-literals-ok
+  tested = c .before .before .before
 
-  abbrev start : tie.Start
-  start = begin second
+  abbrev begun : tie.After-wide
+  begun = measured tested
 
-  passed : literalsOk (start .args .counts .variables) (clauseIn (file start) (at start)) ≡ true
-  passed = ranged second ∙ not-false _ (c .before .before .if3 .left)
+  passed : literalsOk (counts begun .variables) (clauseIn (file begun) (at begun)) ≡ true
+  passed = ranged tested ∙ not-false _ (c .before .before .if3 .left)
 
-  fewer : ltb (start .args .counts .clauses) 1024 ≡ true
+  fewer : ltb (counts begun .clauses) 1024 ≡ true
   fewer = lt-ltb _ 1024 (c .if4 .left)
+
+module _ (c : tie.Else5) where
+  abbrev fourth : tie.Else4
+  fourth = c .before .before
+
+  abbrev start : tie.After-wide
+  start = begun fourth
+
+  most : leb (counts start .literals + lenAt (file start) (at start) / 2) 4096 ≡ true
+  most = ap (λ n. leb (counts start .literals + n / 2) 4096) (sym (len-is start)) ∙ le-leb _ 4096 (c .if5 .left)
+
+  ended : at start + 3 + start .wide .result < 18446744073709551616
+  ended = omega (arith, len-is start, entry start .pre .0, entry start .good)
 
 returns : tie.Need-returns
 unfolding clauseLen
-returns c =
+returns c = λ es bs p t.
     let d = c .before in
-    stopped (entry d) 5 (omega arith) (simp (← len-is d, lt-leb 2 _ (c .if1 .taken)))
+    rw (clause-step (file d) (at d) t, ← len-is d, lt-leb 2 _ (c .if1 .taken)) (refuses refl refl)
 
 returns-2 : tie.Need-returns-2
 unfolding clauseLen
-returns-2 c =
+returns-2 c = λ es bs p t.
     let d = c .before .before in
-    stopped (entry d) 5 (omega arith) (simp (← len-is d, le-leb 2 _ (c .before .if1 .left), ne-eqb _ _ (c .if2 .taken)))
+    rw (clause-step (file d) (at d) t, ← len-is d, le-leb 2 _ (c .before .if1 .left), ne-eqb _ _ (c .if2 .taken)) (refuses refl refl)
 
 returns-3 : tie.Need-returns-3
-returns-3 c =
+returns-3 c = λ es bs p t.
     let d = c .before in
-    stopped (begin d) 6 (omega arith) (simp (long (first d), ranged d ∙ not-true _ (c .if3 .taken)))
+    let b = measured d in
+    rw (clause-step (file b) (at b) t, long d, ranged d ∙ not-true _ (c .if3 .taken)) (refuses refl refl)
 
 returns-4 : tie.Need-returns-4
-returns-4 c =
+returns-4 c = λ es bs p t.
     let d = c .before .before .before in
-    stopped (begin d) 7 (omega arith) (simp (long (first d), ranged d ∙ not-false _ (c .before .before .if3 .left), le-ltb _ 1024 (c .if4 .taken)))
+    let b = measured d in
+    rw (clause-step (file b) (at b) t, long d, ranged d ∙ not-false _ (c .before .before .if3 .left), le-ltb _ 1024 (c .if4 .taken)) (refuses refl refl)
 
 returns-5 : tie.Need-returns-5
-returns-5 c =
+returns-5 c = λ es bs p t.
     let d = c .before .before in
-    stopped (start d) 7 (omega arith)
-    (simp (long (first (second d)), passed d, fewer d, ← len-is (measured (first (second d))), lt-leb _ 4096 (c .if5 .taken)))
+    let b = begun d in
+    rw (clause-step (file b) (at b) t, long (tested d), passed d, fewer d, ← len-is b, lt-leb _ 4096 (c .if5 .taken)) (refuses refl refl)
 
 returns-6 : tie.Need-returns-6
-returns-6 c =
-    let d = c .before .before .before .before .before .before in
-    let s = start d in
-    let l = len-is (measured (first (second d))) in
-    clause-took (file s) (at s) (s .args .counts) 0 (s .pre .1) (s .args .clauses .now) _
-    (simp (long (first (second d)), passed d, fewer d, ← l, le-leb _ 4096 (c .before .before .before .before .if5 .left)))
-    (λ z. rw (← l) (c .before .copy-literals .ensures))
+returns-6 c = λ es bs p t.
+    let e = c .before .before .before .before .before in
+    let d = fourth e in
+    let b = begun d in
+    rw (clause-step (file b) (at b) t, long (tested d), passed d, fewer d, most e)
+    (leads (ap (λ n. at b + 3 + n) (sym (len-is b))) (clause-tables (file b) (at b) t (ap (λ n. n / 2) (len-is b)) (c .before .before .copy-literals .ensures)))
 
 pub take-clause-spec : {M : Type 1} → statement M
 take-clause-spec =
@@ -121,4 +119,7 @@ take-clause-spec =
     (λ c. search needs)
     (λ c κs. search needs)
     (λ c. search needs)
+    (λ c. search needs)
+    (λ c. omega (arith, ended (c .before .before .before .before .before)))
+    (λ c. omega (arith, ended (c .before .before .before .before .before)))
     returns-6)
