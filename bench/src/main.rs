@@ -38,11 +38,5 @@ fn main() -> ExitCode {
         ["time", branchings] => number(branchings).and_then(time::run),
         _ => Err(USAGE.into()),
     };
-    match done {
-        Ok(()) => ExitCode::SUCCESS,
-        Err(message) => {
-            eprint!("{message}");
-            ExitCode::FAILURE
-        }
-    }
+    reference::ended(done)
 }

@@ -1,7 +1,8 @@
 //! Times on the heavy files.
 //!
-//! To time another engine, such as the compiled library, add it to `ENGINES`:
-//! it takes a file's bytes and a budget and gives back the branchings it counted.
+//! To time another engine in Rust, add it to `ENGINES`: it takes a file's bytes and
+//! a budget and gives back the branchings it counted. The compiled library is timed
+//! by `bench/run`.
 
 use crate::clock::time;
 use crate::engine::{self, Engine};

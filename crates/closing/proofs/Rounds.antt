@@ -236,7 +236,7 @@ pub record Going (φ : PlanFile) (v₀ v : List ℤ) : Type 0 where
   pub quiet : AllQuiet (trueIn v) (φ .clauses)
 
 module _ (φ : PlanFile) (v₀ v : List ℤ) where
-  -- the passes before the first round
+  -- what the clauses gave before the first round: there the rounds begin
   pub first-round : Onward φ v₀ v → AllQuiet (trueIn v) (φ .clauses) → Going φ v v
   first-round o q = record { onward = onward-none φ v (o .shape); quiet = q }
 

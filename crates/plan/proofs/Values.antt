@@ -6,7 +6,7 @@ use mathlib.Core.Logic.{_↔_, inl, inr}
 use mathlib.Core.List.{List}
 use Prim.Native.Nat.{ℕ, zero, suc, _-_, _≤_, _<_}
 use native.Mathlib.Omega.{arith}
-use lib.ListN.{length, getD, set, List·getD-eq-default}
+use lib.ListN.{getD, set}
 use lib.IntN.{ℤ, pos, negsuc, negℤ, natAbs}
 use lib.Signed.{ltZ}
 use lib.Dec.{T}
@@ -18,20 +18,10 @@ use Rattle.plan.specs.Search.{Assigned}
 use Rattle.plan.specs.Tables.{literalValue}
 use Rattle.plan.proofs.Add.{IsValue, on-one, off-one}
 
-pub value-zero : (a : List ℤ) (v : ℕ) → v ≡ 0 → value a v ≡ pos 0
-unfolding trueIn value add
-value-zero a zero e = refl
-value-zero a (suc i) e = absurd (omega arith)
-
 pub value-at : (a : List ℤ) (v i : ℕ) → 0 < v → i ≡ v - 1 → value a v ≡ getD a i (pos 0)
 unfolding trueIn value add
 value-at a zero i h e = absurd (omega arith)
 value-at a (suc k) i h e = ap (λ z. getD a z (pos 0)) (omega arith)
-
-pub value-out : (a : List ℤ) (v : ℕ) → length a < v → value a v ≡ pos 0
-unfolding trueIn value add
-value-out a zero h = absurd (omega arith)
-value-out a (suc k) h = List·getD-eq-default a (pos 0) (omega arith)
 
 pub true-on : (a : List ℤ) (v : ℕ) → T (trueIn a (on v)) ↔ (value a v ≡ pos 1)
 unfolding trueIn value add
@@ -41,16 +31,6 @@ pub true-off : (a : List ℤ) (v : ℕ) → 0 < v → T (trueIn a (off v)) ↔ (
 unfolding trueIn value add
 true-off a zero h = absurd (omega arith)
 true-off a (suc i) h = ((λ t. off-one (value a (suc i)) t), (λ e. rw e tt))
-
-pub add-on : (a : List ℤ) (v i : ℕ) → 0 < v → i ≡ v - 1 → add a (on v) ≡ set a i (pos 1)
-unfolding trueIn value add
-add-on a zero i h e = absurd (omega arith)
-add-on a (suc k) i h e = ap (λ z. set a z (pos 1)) (omega arith)
-
-pub add-off : (a : List ℤ) (v i : ℕ) → 0 < v → i ≡ v - 1 → add a (off v) ≡ set a i (negsuc 0)
-unfolding trueIn value add
-add-off a zero i h e = absurd (omega arith)
-add-off a (suc k) i h e = ap (λ z. set a z (negsuc 0)) (omega arith)
 
 -- no literal of a variable up to 512 is the one without an opposite
 pub small-ne : (l : ℤ) → natAbs l ≤ 512 → l ≡ negsuc 32767 → ⊥

@@ -33,3 +33,11 @@ pub mod write;
 // The checks themselves.
 pub mod compare;
 pub mod selftest;
+
+/// How a program ends: well, or with a message.
+pub fn ended(done: Result<(), String>) -> std::process::ExitCode {
+    if let Err(message) = &done {
+        eprint!("{message}");
+    }
+    std::process::ExitCode::from(u8::from(done.is_err()))
+}

@@ -42,13 +42,7 @@ fn main() -> ExitCode {
         ["compare", options @ ..] => Options::of(options).and_then(compare_programs),
         _ => Err(USAGE.into()),
     };
-    match done {
-        Ok(()) => ExitCode::SUCCESS,
-        Err(message) => {
-            eprint!("{message}");
-            ExitCode::FAILURE
-        }
-    }
+    reference::ended(done)
 }
 
 fn said(error: io::Error) -> String {

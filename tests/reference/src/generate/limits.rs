@@ -96,16 +96,19 @@ fn with_atoms(atoms: usize, random: &mut Random) -> PlanFile {
     plan
 }
 
+fn add_clause(plan: &mut PlanFile, length: usize, random: &mut Random) {
+    let variables = plan.variables;
+    let drawn = (0..length).map(|_| literal(variables, random));
+    plan.clauses.push(drawn.collect());
+}
+
 /// Clauses of one to three literals over few variables.
 fn with_clauses(clauses: usize, random: &mut Random) -> PlanFile {
     let mut plan = PlanFile::with_nodes(1);
     plan.variables = random.between(4, VARIABLES);
     for _ in 0..clauses {
         let length = random.between(1, 3);
-        let clause = (0..length)
-            .map(|_| literal(plan.variables, random))
-            .collect();
-        plan.clauses.push(clause);
+        add_clause(&mut plan, length, random);
     }
     plan
 }
@@ -122,10 +125,7 @@ fn with_literals(literals: usize, random: &mut Random) -> PlanFile {
         } else {
             random.between(8, most.max(8)).min(left)
         };
-        let clause = (0..length)
-            .map(|_| literal(plan.variables, random))
-            .collect();
-        plan.clauses.push(clause);
+        add_clause(&mut plan, length, random);
         left -= length;
     }
     plan
@@ -167,10 +167,7 @@ pub fn full(random: &mut Random) -> PlanFile {
         );
     }
     for _ in 0..CLAUSES {
-        let clause = (0..LITERALS / CLAUSES)
-            .map(|_| literal(VARIABLES, random))
-            .collect();
-        plan.clauses.push(clause);
+        add_clause(&mut plan, LITERALS / CLAUSES, random);
     }
     plan
 }

@@ -1,10 +1,7 @@
 //! Files for refusals 6 to 8, with one thing wrong: what a record says.
 
-use super::Cases;
+use super::{around, Cases, SECOND};
 use crate::write::{atom, clause, edge, end, head};
-
-/// The offset of the record behind the head.
-const SECOND: usize = 7;
 
 pub fn add(cases: &mut Cases) {
     add_head_out_of_range(cases);
@@ -13,11 +10,6 @@ pub fn add(cases: &mut Cases) {
     add_literal_out_of_range(cases);
     add_too_many(cases);
     add_edge_and_atom(cases);
-}
-
-/// A head for 3 nodes and 5 variables, one record, and the end.
-fn around(record: Vec<u8>) -> Vec<u8> {
-    [head(3, 5), record, end()].concat()
 }
 
 fn add_head_out_of_range(cases: &mut Cases) {

@@ -11,9 +11,18 @@ mod refused;
 use crate::brute;
 use crate::calls::read;
 use crate::protocol::{text, Request};
+use crate::write::{end, head};
 use std::fs;
 use std::io::{Error, Result};
 use std::path::Path;
+
+/// The offset of the record behind the head.
+const SECOND: usize = 7;
+
+/// A head for 3 nodes and 5 variables, one record, and the end.
+fn around(record: Vec<u8>) -> Vec<u8> {
+    [head(3, 5), record, end()].concat()
+}
 
 /// A file with its expected answer of `read`.
 pub struct Case {

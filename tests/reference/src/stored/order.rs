@@ -1,10 +1,8 @@
 //! Files with two things wrong, for the order in which they are met.
 
-use super::Cases;
+use super::{Cases, SECOND};
 use crate::file::{CLAUSE, EDGE, END, HEAD};
 use crate::write::{atom, clause, edge, end, head, record, record_of_length};
-
-const SECOND: usize = 7;
 
 pub fn add(cases: &mut Cases) {
     add_within_a_record(cases);

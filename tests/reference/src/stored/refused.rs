@@ -1,12 +1,9 @@
 //! Files for refusals 1 to 5, with one thing wrong: length, place and shape of records.
 
-use super::Cases;
+use super::{around, Cases, SECOND};
 use crate::file::{CLAUSE, EDGE, END, HEAD};
 use crate::sample;
 use crate::write::{atom, clause, edge, end, head, record, record_of_length};
-
-/// The offset of the record behind the head.
-const SECOND: usize = 7;
 
 pub fn add(cases: &mut Cases) {
     add_too_long(cases);
@@ -14,11 +11,6 @@ pub fn add(cases: &mut Cases) {
     add_wrong_place(cases);
     add_unknown_tag(cases);
     add_wrong_length(cases);
-}
-
-/// A head for 3 nodes and 5 variables, one record, and the end.
-fn around(record: Vec<u8>) -> Vec<u8> {
-    [head(3, 5), record, end()].concat()
 }
 
 fn add_too_long(cases: &mut Cases) {
