@@ -4,7 +4,7 @@ ghost use mathlib.Core.Path.{_≡_};
 ghost use Prim.Native.Nat.{_+_, _*_, _<_, _≤_};
 ghost use lib.IntN.{pos, negsuc, negℤ, natAbs};
 ghost use lib.ListN.{length, replicate};
-ghost use Rattle.plan.specs.Meaning.{add, edge, atom, kindOf, literalOf};
+ghost use Rattle.plan.specs.Meaning.{add, edge, atom, numberOfKind, kindOf, literalOf};
 ghost use Rattle.plan.specs.Closing.{settling};
 ghost use Rattle.plan.specs.Search.{Assigned};
 ghost use Rattle.plan.specs.Ranged.{LiteralFits};
@@ -225,6 +225,16 @@ pub fn kind_of(number: u16) -> Kind
         return Kind::Reaches;
     }
     Kind::Within
+}
+
+// The number of a kind, in a file and in a table.
+pub fn number_of_kind(kind: Kind) -> u16
+    ensures { λ r. ⌜ r ≡ numberOfKind kind ⌝ }
+{
+    match kind {
+        Kind::Reaches => 1,
+        Kind::Within => 2,
+    }
 }
 
 // The graph that settles that an atom holds, or that it fails: the same for every kind.

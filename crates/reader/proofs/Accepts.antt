@@ -1,9 +1,11 @@
 -- An accepted plan is in range.
 -- Assumes nothing.
 use Rattle.reader.proofs.Kit.{_≡_, refl, sym, ap, _∙_, subst, _⊎_, inl, inr, ⊎-elim, Bool, true, false, _&&_, _||_, or-true, false≢true, List, [], _∷_, _++_, List·Memᴰ, List·Memᴰ·not-nil, List·Memᴰ·cases-cons, List·Memᴰ·append-cases, List·Memᴰ·eq-of-singleton, ℕ, zero, suc, _+_, _/_, _<_, _≤_, arith, eq-eqb, ltb-true, leb-true, eqb-true, ltb, leb, eqb, ℤ, natAbs, length}
-use Rattle.plan.specs.Meaning.{Edge, Atom, PlanFile}
-use Rattle.reader.specs.Format.{Step, refuse, next, done, Reading, refused, accepted, onward, word, lenAt, headOk, endsOk, kindOk, literalOk, literalsOk, serves, edgeUses, atomUses, edgeIn, atomIn, clauseIn, addEdge, addAtom, addClause, emptyPlan, stepAt, headAt, records, readPlan}
-use Rattle.plan.specs.Ranged.{maxBound, literals, EndsFit, LiteralFits, Ranged}
+use Rattle.plan.specs.Meaning.{Edge, Atom, PlanFile, numberOfKind, kindOf}
+use Rattle.plan.specs.declared.Kind.{Kind}
+use Rattle.plan.specs.declared.Kind.the-variants.{Reaches, Within}
+use Rattle.reader.specs.Format.{Step, refuse, next, done, Reading, refused, accepted, onward, word, lenAt, headOk, endsOk, boundOk, kindOk, atomOk, literalOk, literalsOk, serves, edgeUses, atomUses, edgeIn, kindIn, atomIn, clauseIn, addEdge, addAtom, addClause, emptyPlan, stepAt, headAt, records, readPlan}
+use Rattle.plan.specs.Ranged.{maxBound, literals, EndsFit, LiteralFits, BoundFits, Ranged}
 use Rattle.reader.proofs.Cases.{both, head-by, step-by, edge-by, atom-by, clause-by}
 use Rattle.reader.proofs.Rows.{count-clause, length-snoc, literals-length}
 
@@ -20,13 +22,13 @@ ends-fit n v from to variable h =
     let d = both (leb 1 variable) (leb variable v) (a .1) in
     record { from-in = ltb-true from n (b .0); to-in = ltb-true to n (b .1); low = leb-true 1 variable (d .0); high = leb-true variable v (d .1) }
 
-kind-fits : (k b : ℕ) → kindOk k b ≡ true → ((k ≡ 1) × (b ≡ 0)) ⊎ ((k ≡ 2) × (b ≤ maxBound))
+bound-fits : (kind : Kind) (b : ℕ) → boundOk kind b ≡ true → BoundFits kind b
+bound-fits Reaches b h = eqb-true b 0 h
+bound-fits Within b h = leb-true b maxBound h
+
+kind-fits : (k b : ℕ) → kindOk k b ≡ true → BoundFits (kindOf k) b
 unfolding kindOk
-kind-fits k b h =
-    ⊎-elim
-    (λ (w : (eqb k 1 && eqb b 0) ≡ true). let q = both (eqb k 1) (eqb b 0) w in inl (eqb-true k 1 (q .0), eqb-true b 0 (q .1)))
-    (λ (w : (eqb k 2 && leb b maxBound) ≡ true). let q = both (eqb k 2) (leb b maxBound) w in inr (eqb-true k 2 (q .0), leb-true b maxBound (q .1)))
-    (either (eqb k 1 && eqb b 0) (eqb k 2 && leb b maxBound) h)
+kind-fits k b h = bound-fits (kindOf k) b (both (eqb (numberOfKind (kindOf k)) k) (boundOk (kindOf k) b) h .1)
 
 literal-fits : (v : ℕ) (l : ℤ) → literalOk v l ≡ true → LiteralFits v l
 unfolding literalOk
@@ -68,17 +70,17 @@ module _ (p : PlanFile) (r : Ranged p) where
     literals = r .literals;
     edge = snoc (λ (x : Edge). EndsFit (p .nodes) (p .variables) (x .from) (x .to) (x .variable)) (p .edges) e (r .edge) (ends-fit _ _ _ _ _ ok);
     atom = r .atom;
-    kind = r .kind;
+    bound = r .bound;
     clause = r .clause;
     literal = r .literal;
     apart = snoc (λ (x : Edge). (a : Atom) → List·Memᴰ a (p .atoms) → x .variable ≡ a .variable → ⊥) (p .edges) e (r .apart)
         (λ a m q. unserved _ (p .atoms) (e .variable) free a m (sym q));
   }
 
-  with-atom : (a : Atom) → (kindOk (a .kind) (a .bound) && endsOk (p .nodes) (p .variables) (a .from) (a .to) (a .variable)) ≡ true
+  with-atom : (k : ℕ) (a : Atom) → a .kind ≡ kindOf k → atomOk (p .nodes) (p .variables) k a ≡ true
       → length (p .atoms) < 64 → edgeUses (p .edges) (a .variable) ≡ false → Ranged (addAtom p a)
-  with-atom a ok room free =
-      let d = both (kindOk (a .kind) (a .bound)) (endsOk (p .nodes) (p .variables) (a .from) (a .to) (a .variable)) ok in
+  with-atom k a is ok room free =
+      let d = both (kindOk k (a .bound)) (endsOk (p .nodes) (p .variables) (a .from) (a .to) (a .variable)) ok in
       record {
         node = r .node;
         nodes = r .nodes;
@@ -90,8 +92,7 @@ module _ (p : PlanFile) (r : Ranged p) where
         literals = r .literals;
         edge = r .edge;
         atom = snoc (λ (x : Atom). EndsFit (p .nodes) (p .variables) (x .from) (x .to) (x .variable)) (p .atoms) a (r .atom) (ends-fit _ _ _ _ _ (d .1));
-        kind = snoc (λ (x : Atom). ((x .kind ≡ 1) × (x .bound ≡ 0)) ⊎ ((x .kind ≡ 2) × (x .bound ≤ 255))) (p .atoms) a (r .kind)
-            (kind-fits (a .kind) (a .bound) (d .0));
+        bound = snoc (λ (x : Atom). BoundFits (x .kind) (x .bound)) (p .atoms) a (r .bound) (rw is (kind-fits k (a .bound) (d .0)));
         clause = r .clause;
         literal = r .literal;
         apart = λ e m. snoc (λ (x : Atom). e .variable ≡ x .variable → ⊥) (p .atoms) a (r .apart e m) (unserved _ (p .edges) (a .variable) free e m);
@@ -110,7 +111,7 @@ module _ (p : PlanFile) (r : Ranged p) where
     literals = omega (arith, count-clause (p .clauses) c);
     edge = r .edge;
     atom = r .atom;
-    kind = r .kind;
+    bound = r .bound;
     clause = snoc (λ (x : List ℤ). 1 ≤ length x) (p .clauses) c (r .clause) one;
     literal = snoc (λ (x : List ℤ). (l : ℤ) → List·Memᴰ l x → LiteralFits (p .variables) l) (p .clauses) c (r .literal) (literals-fit (p .variables) c ok);
     apart = r .apart;
@@ -131,7 +132,7 @@ step-good f at p r =
     let n = literals-length f (at + 3) (lenAt f at / 2) in
     step-by Good (λ n v. tt) f at p
     (λ h. edge-by Good (λ n v. tt) f at p (with-edge p r (edgeIn f at)))
-    (λ h. atom-by Good (λ n v. tt) f at p (with-atom p r (atomIn f at)))
+    (λ h. atom-by Good (λ n v. tt) f at p (with-atom p r (kindIn f at) (atomIn f at) refl))
     (λ h. clause-by Good (λ n v. tt) f at p (λ l ok room most.
     with-clause p r (clauseIn f at) (subst (λ (k : ℕ). 1 ≤ k) (sym n) l) ok room (subst (λ (k : ℕ). literals (p .clauses) + k ≤ 4096) (sym n) most)))
     r
@@ -164,7 +165,7 @@ empty-ranged n v h =
       literals = omega arith;
       edge = λ e m. absurd (List·Memᴰ·not-nil m);
       atom = λ e m. absurd (List·Memᴰ·not-nil m);
-      kind = λ e m. absurd (List·Memᴰ·not-nil m);
+      bound = λ e m. absurd (List·Memᴰ·not-nil m);
       clause = λ e m. absurd (List·Memᴰ·not-nil m);
       literal = λ e m. absurd (List·Memᴰ·not-nil m);
       apart = λ e m. absurd (List·Memᴰ·not-nil m);

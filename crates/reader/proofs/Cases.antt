@@ -3,7 +3,7 @@
 use Rattle.reader.proofs.Kit.{_≡_, refl, Bool, true, false, not, _&&_, and-eq-true-iff, List, ℕ, _+_, _*_, _/_, _<_, _≤_, arith, ltb-true, leb-true, eqb-true, not-true, ltb, leb, eqb, length}
 use Rattle.plan.specs.Meaning.{PlanFile}
 use Rattle.plan.specs.Ranged.{maxBytes, maxEdges, maxAtoms, maxClauses, maxLiterals, literals}
-use Rattle.reader.specs.Format.{Step, refuse, next, done, check, pick, inOrder, word, tagAt, lenAt, after, fits, headOk, edgeOk, atomOk, literalsOk, clauseLen, edgeUses, atomUses, edgeIn, atomIn, clauseIn, addEdge, addAtom, addClause, emptyPlan, edgeAt, atomAt, clauseAt, endAt, stepAt, headAt}
+use Rattle.reader.specs.Format.{Step, refuse, next, done, check, pick, inOrder, word, tagAt, lenAt, after, fits, headOk, edgeOk, atomOk, literalsOk, clauseLen, edgeUses, atomUses, edgeIn, kindIn, atomIn, clauseIn, addEdge, addAtom, addClause, emptyPlan, edgeAt, atomAt, clauseAt, endAt, stepAt, headAt}
 use Rattle.reader.proofs.Steps.{fits-is}
 
 pub both : (a b : Bool) → (a && b) ≡ true → (a ≡ true) × (b ≡ true)
@@ -42,11 +42,11 @@ module _ (G : Step → Type 0) (no : (n v : ℕ) → G (refuse n v)) where
         in-order (eqb (lenAt f at) 6) (edgeOk (p .nodes) (p .variables) (edgeIn f at)) (ltb (length (p .edges)) maxEdges)
         (not (atomUses (p .atoms) (word f (at + 7)))) _ _ (λ l r m a. g r (ltb-true _ _ m) (not-true _ a))
 
-    pub atom-by : (atomOk (p .nodes) (p .variables) (atomIn f at) ≡ true → length (p .atoms) < maxAtoms → edgeUses (p .edges) (word f (at + 10)) ≡ false
+    pub atom-by : (atomOk (p .nodes) (p .variables) (kindIn f at) (atomIn f at) ≡ true → length (p .atoms) < maxAtoms → edgeUses (p .edges) (word f (at + 10)) ≡ false
         → G (next (after f at) (addAtom p (atomIn f at)))) → G (atomAt f at p)
     unfolding atomAt
     atom-by g =
-        in-order (eqb (lenAt f at) 9) (atomOk (p .nodes) (p .variables) (atomIn f at)) (ltb (length (p .atoms)) maxAtoms)
+        in-order (eqb (lenAt f at) 9) (atomOk (p .nodes) (p .variables) (kindIn f at) (atomIn f at)) (ltb (length (p .atoms)) maxAtoms)
         (not (edgeUses (p .edges) (word f (at + 10)))) _ _ (λ l r m a. g r (ltb-true _ _ m) (not-true _ a))
 
     pub clause-by : (1 ≤ lenAt f at / 2 → literalsOk (p .variables) (clauseIn f at) ≡ true → length (p .clauses) < maxClauses

@@ -3,7 +3,10 @@
 use Rattle.reader.proofs.Kit.{_≡_, refl, sym, ap, _∙_, subst, List, [], _∷_, List·Memᴰ, ℕ, _+_, _*_, arith, ℤ, pos, natAbs, length, take, length-append}
 use mathlib.Core.Logic.{_≢_}
 use native.Mathlib.Nat.{suc-mul, add-comm}
-use Rattle.plan.specs.Meaning.{Edge, Atom}
+use mathlib.Core.Path.{ap₂}
+use Rattle.plan.specs.Meaning.{Edge, Atom, numberOfKind, kindOf}
+use Rattle.plan.specs.declared.Kind.{Kind}
+use Rattle.plan.specs.declared.Kind.the-variants.{Reaches, Within}
 use Rattle.plan.specs.Ranged.{Ranged, literals}
 use Rattle.plan.specs.Written.{flat}
 use Rattle.plan.specs.Tables.{edgesOf, atomsOf, clausesOf, planOf, Lent}
@@ -20,10 +23,15 @@ unfolding edgesOf rowsOf
 edges-back [] = refl
 edges-back (e ∷ es) = ap (λ l. e ∷ l) (edges-back es)
 
+kind-back : (kind : Kind) → kindOf (numberOfKind kind) ≡ kind
+kind-back Reaches = refl
+kind-back Within = refl
+
 atoms-back : (bs : List Atom) → atomsOf (rowsOf atomRow bs) ≡ bs
 unfolding atomsOf rowsOf
 atoms-back [] = refl
-atoms-back (b ∷ bs) = ap (λ l. b ∷ l) (atoms-back bs)
+atoms-back (b ∷ bs) =
+    ap₂ (λ k l. record { kind = k; from = b .from; to = b .to; bound = b .bound; variable = b .variable } ∷ l) (kind-back (b .kind)) (atoms-back bs)
 
 rows-length : {A : Type 0} (row : A → List ℕ) (k : ℕ) → ((x : A) → length (row x) ≡ k) → (xs : List A) → length (rowsOf row xs) ≡ length xs * k
 unfolding rowsOf

@@ -5,7 +5,7 @@ use Rattle.plan.specs.Meaning.{PlanFile}
 use Rattle.plan.specs.Ranged.{maxEdges, maxAtoms, maxClauses, maxLiterals, literals}
 use Rattle.plan.specs.Written.{flat}
 use Rattle.plan.specs.declared.Plan as counted
-use Rattle.reader.specs.Format.{next, inOrder, word, lenAt, after, fits, edgeOk, atomOk, literalsOk, clauseLen, edgeIn, atomIn, clauseIn, literalsIn, addEdge, addAtom, addClause, emptyPlan, edgeAt, atomAt, clauseAt}
+use Rattle.reader.specs.Format.{next, inOrder, word, lenAt, after, fits, edgeOk, atomOk, literalsOk, clauseLen, edgeIn, kindIn, atomIn, clauseIn, literalsIn, addEdge, addAtom, addClause, emptyPlan, edgeAt, atomAt, clauseAt}
 use Rattle.reader.specs.Filling.{Tables, Filled, lastIs, rowsOf, edgeRow, atomRow}
 use Rattle.reader.proofs.Rows.{uses-edges, uses-atoms, rows-more, flat-clause, count-clause, length-snoc, literals-length}
 
@@ -59,7 +59,7 @@ module _ (f : List ℕ) (at : ℕ) {p : PlanFile} {c : counted.Plan} {es bs : Li
   }
 
   pub atom-step : atomAt f at p ≡
-      inOrder (eqb (lenAt f at) 9) (atomOk (c .nodes) (c .variables) (atomIn f at)) (ltb (c .atoms) maxAtoms)
+      inOrder (eqb (lenAt f at) 9) (atomOk (c .nodes) (c .variables) (kindIn f at) (atomIn f at)) (ltb (c .atoms) maxAtoms)
       (not (lastIs 2 2 (take (c .edges * 3) es) (word f (at + 10)))) at
       (next (after f at) (addAtom p (atomIn f at)))
   unfolding atomAt

@@ -7,7 +7,7 @@ use mathlib.Core.List.{List, [], _∷_, _++_}
 use lib.Dec.{eqb}
 use lib.IntN.{ℤ}
 use lib.ListN.{length, take}
-use Rattle.plan.specs.Meaning.{Edge, Atom, PlanFile}
+use Rattle.plan.specs.Meaning.{Edge, Atom, PlanFile, numberOfKind}
 use Rattle.reader.specs.Format.{Step, refuse, next, done, Reading, refused, accepted}
 use Rattle.plan.specs.Ranged.{maxNodes, maxVariables, maxEdges, maxAtoms, maxClauses, maxLiterals, literals}
 use Rattle.plan.specs.Written.{flat}
@@ -24,7 +24,7 @@ abbrev pub edgeRow : Edge → List ℕ
 edgeRow e = e .from ∷ e .to ∷ e .variable ∷ []
 
 abbrev pub atomRow : Atom → List ℕ
-atomRow a = a .kind ∷ a .from ∷ a .to ∷ a .bound ∷ a .variable ∷ []
+atomRow a = numberOfKind (a .kind) ∷ a .from ∷ a .to ∷ a .bound ∷ a .variable ∷ []
 
 unfoldable pub rowsOf : {A : Type 0} → (A → List ℕ) → List A → List ℕ
 rowsOf row [] = []

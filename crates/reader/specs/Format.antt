@@ -6,7 +6,9 @@ use mathlib.Core.List.{List, [], _∷_, _++_}
 use lib.Dec.{ltb, leb, eqb}
 use lib.IntN.{ℤ, pos, negsuc, natAbs}
 use lib.ListN.{length, getD}
-use Rattle.plan.specs.Meaning.{Edge, Atom, PlanFile}
+use Rattle.plan.specs.Meaning.{Edge, Atom, PlanFile, numberOfKind, kindOf}
+use Rattle.plan.specs.declared.Kind.{Kind}
+use Rattle.plan.specs.declared.Kind.the-variants.{Reaches, Within}
 use Rattle.plan.specs.Ranged.{maxBytes, maxNodes, maxVariables, maxEdges, maxAtoms, maxBound, maxClauses, maxLiterals, literals}
 
 -- What a record leads to: a refusal with its number and returned value, the plan file so far with the next record's offset, or the whole.
@@ -71,12 +73,16 @@ endsOk nodes variables from to variable = ltb from nodes && ltb to nodes && vari
 abbrev pub edgeOk : ℕ → ℕ → Edge → Bool
 edgeOk nodes variables e = endsOk nodes variables (e .from) (e .to) (e .variable)
 
--- "Kind 1 is 'reaches', bound 0. Kind 2 is 'within', bound 0 to 255."
-unfoldable pub kindOk : ℕ → ℕ → Bool
-kindOk kind bound = (eqb kind 1 && eqb bound 0) || (eqb kind 2 && leb bound maxBound)
+-- "Kind 1 is 'reaches', bound 0. Kind 2 is 'within', bound 0 to 255.": the number is that of a kind, and the bound is in its range.
+abbrev pub boundOk : Kind → ℕ → Bool
+boundOk Reaches bound = eqb bound 0
+boundOk Within bound = leb bound maxBound
 
-abbrev pub atomOk : ℕ → ℕ → Atom → Bool
-atomOk nodes variables a = kindOk (a .kind) (a .bound) && endsOk nodes variables (a .from) (a .to) (a .variable)
+unfoldable pub kindOk : ℕ → ℕ → Bool
+kindOk number bound = eqb (numberOfKind (kindOf number)) number && boundOk (kindOf number) bound
+
+abbrev pub atomOk : ℕ → ℕ → ℕ → Atom → Bool
+atomOk nodes variables number a = kindOk number (a .bound) && endsOk nodes variables (a .from) (a .to) (a .variable)
 
 -- "A literal is a variable's number, negative for off, and never 0; -32,768 .. is out of range like any other below minus the variable count."
 unfoldable pub literalOk : ℕ → ℤ → Bool
@@ -102,8 +108,11 @@ atomUses = serves (λ a. a .variable)
 abbrev pub edgeIn : List ℕ → ℕ → Edge
 edgeIn f at = record { from = word f (at + 3); to = word f (at + 5); variable = word f (at + 7) }
 
+abbrev pub kindIn : List ℕ → ℕ → ℕ
+kindIn f at = getD f (at + 3) 0
+
 abbrev pub atomIn : List ℕ → ℕ → Atom
-atomIn f at = record { kind = getD f (at + 3) 0; from = word f (at + 4); to = word f (at + 6); bound = word f (at + 8); variable = word f (at + 10) }
+atomIn f at = record { kind = kindOf (kindIn f at); from = word f (at + 4); to = word f (at + 6); bound = word f (at + 8); variable = word f (at + 10) }
 
 -- n literals from i on
 unfoldable pub literalsIn : List ℕ → ℕ → ℕ → List ℤ
@@ -131,7 +140,7 @@ edgeAt f at p =
 
 unfoldable pub atomAt : List ℕ → ℕ → PlanFile → Step
 atomAt f at p =
-    inOrder (eqb (lenAt f at) 9) (atomOk (p .nodes) (p .variables) (atomIn f at)) (ltb (length (p .atoms)) maxAtoms) (not (edgeUses (p .edges) (atomIn f at .variable))) at
+    inOrder (eqb (lenAt f at) 9) (atomOk (p .nodes) (p .variables) (kindIn f at) (atomIn f at)) (ltb (length (p .atoms)) maxAtoms) (not (edgeUses (p .edges) (atomIn f at .variable))) at
     (next (after f at) (addAtom p (atomIn f at)))
 
 -- "even, at least 2"; "An empty clause is malformed."

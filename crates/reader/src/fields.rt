@@ -3,9 +3,10 @@ ghost use mathlib.Core.Path.{_≡_};
 ghost use Prim.Native.Nat.{_+_, _*_, _<_, _≤_};
 ghost use lib.ListN.{length};
 ghost use Rattle.plan.specs.Tables.{edgeOf, atomOf};
-ghost use Rattle.reader.specs.Format.{word, twos, fits, headOk, endsOk, kindOk, edgeOk, atomOk, literalOk, literalsOk, literalsIn, edgeIn, atomIn};
+ghost use Rattle.reader.specs.Format.{word, twos, fits, headOk, endsOk, boundOk, kindOk, edgeOk, atomOk, literalOk, literalsOk, literalsIn, edgeIn, kindIn, atomIn};
 use plan::Atom;
 use plan::Edge;
+use plan::Kind;
 use plan::Plan;
 use plan::wide;
 
@@ -54,13 +55,21 @@ pub fn edge_in(file: &[u8], at: usize) -> Edge
     }
 }
 
+// The number of the kind of the atom at an offset.
+pub fn kind_in(file: &[u8], at: usize) -> u16
+    requires { ⌜ at + 12 ≤ length (now file) ⌝ }
+    ensures { λ r. ⌜ r ≡ kindIn (now (file .entry)) at ⌝ }
+{
+    file[at + 3] as u16
+}
+
 // The atom of the record at an offset.
 pub fn atom_in(file: &[u8], at: usize) -> Atom
     requires { ⌜ at + 12 ≤ length (now file) ⌝ }
     ensures { λ r. ⌜ atomOf r ≡ atomIn (now (file .entry)) at ⌝ }
 {
     Atom {
-        kind: file[at + 3] as u16,
+        kind: plan::kind_of(kind_in(file, at)),
         from: word(file, at + 4),
         to: word(file, at + 6),
         bound: word(file, at + 8),
@@ -99,16 +108,23 @@ fn ends_ok(counts: Plan, from: u16, to: u16, variable: u16) -> bool
     variable <= counts.variables
 }
 
-fn kind_ok(kind: u16, bound: u16) -> bool
-    ensures { λ r. ⌜ r ≡ kindOk kind bound ⌝ }
+fn bound_ok(kind: Kind, bound: u16) -> bool
+    ensures { λ r. ⌜ r ≡ boundOk kind bound ⌝ }
 {
-    if kind == 1 {
-        return bound == 0;
+    match kind {
+        Kind::Reaches => bound == 0,
+        Kind::Within => bound <= Atom::MAX_BOUND,
     }
-    if kind == 2 {
-        return bound <= Atom::MAX_BOUND;
+}
+
+fn kind_ok(number: u16, bound: u16) -> bool
+    ensures { λ r. ⌜ r ≡ kindOk number bound ⌝ }
+{
+    let kind = plan::kind_of(number);
+    if plan::number_of_kind(kind) != number {
+        return false;
     }
-    false
+    bound_ok(kind, bound)
 }
 
 pub fn edge_ok(counts: Plan, edge: Edge) -> bool
@@ -117,10 +133,10 @@ pub fn edge_ok(counts: Plan, edge: Edge) -> bool
     ends_ok(counts, edge.from, edge.to, edge.variable)
 }
 
-pub fn atom_ok(counts: Plan, atom: Atom) -> bool
-    ensures { λ r. ⌜ r ≡ atomOk (counts .nodes) (counts .variables) (atomOf atom) ⌝ }
+pub fn atom_ok(counts: Plan, number: u16, atom: Atom) -> bool
+    ensures { λ r. ⌜ r ≡ atomOk (counts .nodes) (counts .variables) number (atomOf atom) ⌝ }
 {
-    if !kind_ok(atom.kind, atom.bound) {
+    if !kind_ok(number, atom.bound) {
         return false;
     }
     ends_ok(counts, atom.from, atom.to, atom.variable)

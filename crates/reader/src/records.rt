@@ -12,6 +12,7 @@ use crate::fields::atom_in;
 use crate::fields::atom_ok;
 use crate::fields::edge_in;
 use crate::fields::edge_ok;
+use crate::fields::kind_in;
 use crate::fields::literal;
 use crate::fields::literals_ok;
 use crate::fields::record_fits;
@@ -39,7 +40,9 @@ fn put_atom(table: &mut [u16], n: usize, atom: Atom)
     ensures { λ _. ⌜ take ((n + 1) * 5) (now (table .exit)) ≡ take (n * 5) (now (table .entry)) ++ atomRow (atomOf atom) ⌝ }
 {
     let row = n * Atom::NUMBERS;
-    table[row] = atom.kind;
+    let kind = atom.kind;
+    let number = plan::number_of_kind(kind);
+    table[row] = number;
     table[row + 1] = atom.from;
     table[row + 2] = atom.to;
     table[row + 3] = atom.bound;
@@ -126,7 +129,7 @@ fn take_atom(
         return Step::Refuse(Refusal::BadLength(at));
     }
     let atom = atom_in(file, at);
-    if !atom_ok(counts, atom) {
+    if !atom_ok(counts, kind_in(file, at), atom) {
         return Step::Refuse(Refusal::OutOfRange(at));
     }
     let n = counts.atoms;

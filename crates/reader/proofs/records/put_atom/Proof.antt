@@ -6,27 +6,14 @@ use Rattle.reader.proofs.records.put_atom.Tie as tie
 
 returns : tie.Need-returns
 returns c =
-    let a = c .args .atom in
-    put-row (c .args .table .now) (c .args .n * 5) 5 ((c .args .n + 1) * 5) (a .kind) (a .from ∷ a .to ∷ a .bound ∷ a .variable ∷ []) refl (omega arith) (c .pre)
+    let d = c .before .before in
+    let a = d .args .atom in
+    rw (c .number-of-kind .ensures)
+    (put-row (d .args .table .now) (d .args .n * 5) 5 ((d .args .n + 1) * 5) _ (a .from ∷ a .to ∷ a .bound ∷ a .variable ∷ []) refl (omega arith) (d .pre))
 
 pub put-atom-spec : {M : Type 1} → statement M
 put-atom-spec =
     tie.close
-    (tie.spec
-    (λ c. search needs)
-    (λ c. search needs)
-    (λ c. search needs)
-    (λ c. search needs)
-    (λ c. search needs)
-    (λ c. simp length-set (omega arith))
-    (λ c. search needs)
-    (λ c. search needs)
-    (λ c. simp length-set (omega arith))
-    (λ c. search needs)
-    (λ c. search needs)
-    (λ c. simp length-set (omega arith))
-    (λ c. search needs)
-    (λ c. search needs)
-    (λ c. simp length-set (omega arith))
-    (λ c. search needs)
-    returns)
+    (tie.spec (λ c. search needs) (λ c κs. search needs) (λ c. search needs) (λ c. search needs) (λ c. search needs) (λ c. search needs)
+    (λ c. simp length-set (omega arith)) (λ c. search needs) (λ c. search needs) (λ c. simp length-set (omega arith)) (λ c. search needs) (λ c. search needs)
+    (λ c. simp length-set (omega arith)) (λ c. search needs) (λ c. search needs) (λ c. simp length-set (omega arith)) (λ c. search needs) returns)
