@@ -21,7 +21,7 @@ use Rattle.unit.specs.declared.Said.the-variants.{Clash, Gives, Nothing}
 use Rattle.unit.proofs.Calm.{quiet-true, quiet-two}
 
 -- where the look goes on: at a literal that is the one passed over, or false
-pub goes-on : (a : List ℤ) (passed l : ℤ) → (Stops a passed l → ⊥) → (l ≢ pos 0) × ((l ≡ passed) ⊎ T (trueIn a (negℤ l)))
+goes-on : (a : List ℤ) (passed l : ℤ) → (Stops a passed l → ⊥) → (l ≢ pos 0) × ((l ≡ passed) ⊎ T (trueIn a (negℤ l)))
 goes-on a passed l n = ((λ z. n (inl z)), go (ℤ-discrete l passed) (T? (trueIn a (negℤ l))))
   where
     go : Dec (l ≡ passed) → T (trueIn a (negℤ l)) ⊎ (T (trueIn a (negℤ l)) → ⊥) → (l ≡ passed) ⊎ T (trueIn a (negℤ l))
