@@ -1,6 +1,6 @@
 -- The search with a budget has one answer and one count, and there is one.
 -- Assumes nothing.
-use mathlib.Core.Path.{_≡_, refl, ap}
+use mathlib.Core.Path.{_≡_, refl, subst, ap}
 use mathlib.Core.Logic.{_⊎_, inl, inr}
 use mathlib.Core.List.{List}
 use Prim.Native.Nat.{ℕ, zero, suc, _+_, _-_, _≤_, _<_}
@@ -46,16 +46,16 @@ module _ (φ : PlanFile) (ok : Ranged φ) (a c : List ℤ) (i : ℕ) (k : Closes
   pub no-budget : Searched φ a zero undecided zero
   no-budget = let q = grown _ (searching-is φ ok (add c (triedFirst φ (suc i))) (first-shape φ c i (k .shape) l)) in beyond (q .2) (omega (arith, q .3))
 
-  pub first-finds : {n b : ℕ} {p : List ℤ} → Searched φ (add c (triedFirst φ (suc i))) n (decided (found p)) b → Searched φ a (suc n) (decided (found p)) (suc b)
-  first-finds (within t h) = within (first-found k l t) (omega arith)
+  -- the first side held a plan, or used up the budget
+  pub first-decides : {n b : ℕ} {r : Answer} → (r ≡ decided nothing → ⊥) → Searched φ (add c (triedFirst φ (suc i))) n r b → Searched φ a (suc n) r (suc b)
+  first-decides n (within {o = nothing} t h) = absurd (n refl)
+  first-decides n (within {o = found p} t h) = within (first-found k l t) (omega arith)
+  first-decides n (beyond {o = o} t h) = let q = grown o t in beyond (q .2) (omega (arith, q .3))
 
-  pub first-ends : {n b : ℕ} → Searched φ (add c (triedFirst φ (suc i))) n undecided b → Searched φ a (suc n) undecided (suc n)
-  first-ends (beyond {o = o} t h) = let q = grown o t in beyond (q .2) (omega (arith, q .3))
-
-  pub then-decides : {n b b′ : ℕ} {o : Outcome} → Searched φ (add c (triedFirst φ (suc i))) n (decided nothing) b → Searched φ (add c (triedThen φ (suc i))) (n - b) (decided o) b′
-      → Searched φ a (suc n) (decided o) (suc (b + b′))
+  -- it held no plan, and the other was tried with what was left
+  pub then-decides : {n b b′ : ℕ} {r : Answer} → Searched φ (add c (triedFirst φ (suc i))) n (decided nothing) b → Searched φ (add c (triedThen φ (suc i))) (n - b) r b′
+      → Searched φ a (suc n) r (suc (b + b′))
   then-decides (within t h) (within u g) = within (first-nothing k l t u) (omega arith)
-
-  pub then-ends : {n b b′ : ℕ} → Searched φ (add c (triedFirst φ (suc i))) n (decided nothing) b → Searched φ (add c (triedThen φ (suc i))) (n - b) undecided b′
-      → Searched φ a (suc n) undecided (suc n)
-  then-ends (within t h) (beyond u g) = beyond (first-nothing k l t u) (omega arith)
+  then-decides {n} {b} (within t h) (beyond u g) =
+      let e : suc n ≡ suc (b + (n - b)) = omega arith in
+      subst (λ m. Searched φ a (suc n) undecided m) e (beyond (first-nothing k l t u) (omega arith))

@@ -27,7 +27,7 @@ eqℤ→eq (pos m) (negsuc n) t = absurd t
 eqℤ→eq (negsuc m) (pos n) t = absurd t
 eqℤ→eq (negsuc m) (negsuc n) t = ap negsuc (eqb→eq m n t)
 
-eqℤ-refl : (m : ℤ) → T (eqℤ m m)
+pub eqℤ-refl : (m : ℤ) → T (eqℤ m m)
 eqℤ-refl (pos m) = eqb-refl m
 eqℤ-refl (negsuc m) = eqb-refl m
 

@@ -63,21 +63,6 @@ fn closed(
 }
 
 // The lowest open variable's place from `from` on; the number of variables if there is none.
-fn lowest_open(values: &[i8], from: usize) -> usize
-    requires { ⌜ from ≤ length (now values) ⌝ }
-    ensures { λ r. ⌜ FirstOpen (now (values .entry)) from r ⌝ }
-{
-    let mut at = from;
-    while at < values.len() {
-        if values[at] == 0 {
-            return at;
-        }
-        at += 1;
-    }
-    at
-}
-
-// The lowest open variable's place in an assignment.
 fn open_place(plan: Plan, a: Assignment, from: usize) -> usize
     requires { ⌜ plan .variables ≤ maxVariables ⌝ }
     requires { ⌜ from ≤ plan .variables ⌝ }
@@ -85,7 +70,14 @@ fn open_place(plan: Plan, a: Assignment, from: usize) -> usize
 {
     let values = a.values;
     let n = plan::wide(plan.variables);
-    lowest_open(&values[..n], from)
+    let mut at = from;
+    while at < n {
+        if values[at] == 0 {
+            return at;
+        }
+        at += 1;
+    }
+    at
 }
 
 // Closes, and finds a clash, a plan, or the lowest open variable to branch on. The places below `from` are assigned.

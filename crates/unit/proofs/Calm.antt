@@ -1,8 +1,8 @@
 -- A quiet clause stays quiet until one of its literals becomes false; and what one literal more makes true.
 -- Assumes nothing.
-use mathlib.Core.Path.{_≡_, refl, sym, subst, _∙_}
-use mathlib.Core.Logic.{_⊎_, inl, inr, _≢_}
-use mathlib.Core.Bool.{Bool, true, false, not, _&&_, _||_}
+use mathlib.Core.Path.{_≡_, sym, subst, _∙_}
+use mathlib.Core.Logic.{_⊎_, inl, inr, _≢_, ⊎-elim}
+use mathlib.Core.Bool.{not, _&&_, _||_}
 use mathlib.Core.List.{List, List·Memᴰ}
 use Prim.Native.Nat.{_≤_}
 use lib.ListN.{length}
@@ -12,6 +12,8 @@ use Rattle.plan.specs.Meaning.{Literals, _⊆_, trueIn, add}
 use Rattle.plan.proofs.Bools.{T?, any-or-none, and-both, and-left, and-right, or-cases, or-left, or-right}
 use Rattle.plan.proofs.Closing.{never-both}
 use Rattle.plan.proofs.Add.{add-below}
+use Rattle.plan.proofs.Compute.{eqℤ}
+use Rattle.plan.proofs.Exists.{eqℤ→eq, eqℤ-refl}
 use Rattle.unit.specs.Clauses.{OthersFalse, Quiet}
 
 pub quiet-or-false : (v w : List ℤ) → trueIn v ⊆ trueIn w → (C : List ℤ) → Quiet (trueIn v) C
@@ -47,25 +49,7 @@ quiet-two S C l k m i x y n = record { there = λ j h o. absurd (go j o (ℤ-dis
     go j o (no d) = x (o l m d)
 
 -- one literal more makes that literal true, and no other
-same : {l m : ℤ} → Dec (m ≡ l) → Bool
-same (yes e) = true
-same (no n) = false
-
-same-is : {l m : ℤ} (d : Dec (m ≡ l)) → T (same d) → m ≡ l
-unfolding same
-same-is (yes e) t = e
-same-is (no n) t = absurd t
-
-is-same : {l : ℤ} (d : Dec (l ≡ l)) → T (same d)
-unfolding same
-is-same (yes e) = tt
-is-same (no n) = absurd (n refl)
-
 pub add-only : (v : List ℤ) (l m : ℤ) → natAbs l ≤ length v → T (trueIn (add v l) m) → (T (trueIn v m) → ⊥) → m ≡ l
 add-only v l m k t n =
-    go (or-cases (trueIn v m) (same (ℤ-discrete m l))
-    (add-below v (λ x. trueIn v x || same (ℤ-discrete x l)) l k (λ x u. or-left (trueIn v x) _ u) (or-right (trueIn v l) _ (is-same (ℤ-discrete l l))) m t))
-  where
-    go : T (trueIn v m) ⊎ T (same (ℤ-discrete m l)) → m ≡ l
-    go (inl u) = absurd (n u)
-    go (inr u) = same-is (ℤ-discrete m l) u
+    ⊎-elim (λ u. absurd (n u)) (eqℤ→eq m l) (or-cases (trueIn v m) (eqℤ m l)
+    (add-below v (λ x. trueIn v x || eqℤ x l) l k (λ x u. or-left (trueIn v x) _ u) (or-right (trueIn v l) _ (eqℤ-refl l)) m t))

@@ -121,7 +121,7 @@ pub queueing-ends : (b v p : List ℤ) (end i : ℕ) → Queueing b v p end i �
 queueing-ends b v p end i r h small =
     let e : i ≡ length v = omega (arith, r .inside) in
     let q : opens (drop i v) ≡ 0 = rw e (opens-end v) in
-    record { long = r .long; room = omega (arith, r .room); fits = r .fits; there = λ j l. r .there j (omega arith) }
+    record { queue = record { long = r .long; room = omega (arith, r .room); fits = r .fits }; there = λ j l. r .there j (omega arith) }
 
 -- each clause is quiet still, or a literal that waits made one of its literals false
 module _ (cs b v p : List ℤ) (end : ℕ) (since : Since cs b v) (r : Queued b v p end) where
@@ -142,7 +142,7 @@ module _ (cs b v p : List ℤ) (end : ℕ) (since : Since cs b v) (r : Queued b 
   changed-in (negsuc i) t n = subst (λ k. InQueue p end (off k)) (add-one i) (changed-at i (negsuc 0) (λ e. subst (λ x. T (isOff x)) e tt) (off-one _ t) (λ e. n (rw e tt)))
 
   pub changes-wait : Pending cs None v p 0 end
-  changes-wait = record { long = r .long; room = r .room; fits = r .fits; calm = λ C m. inr (go C (quiet-or-false (kept .before) v (kept .above) C (since .quiet C m))) }
+  changes-wait = record { queue = r .queue; calm = λ C m. inr (go C (quiet-or-false (kept .before) v (kept .above) C (since .quiet C m))) }
     where
       go : (C : List ℤ) → ((m : ℤ) × List·Memᴰ m C × T (trueIn v (negℤ m)) × (T (trueIn (kept .before) (negℤ m)) → ⊥)) ⊎ Quiet (trueIn v) C
           → Quiet (trueIn v) C ⊎ Waits p 0 end C

@@ -61,12 +61,12 @@ Calm Left v q head end C = Left C ⊎ (Quiet (trueIn v) C ⊎ Waits q head end C
 -- an empty queue
 pending-start : {cs v q : List ℤ} {Left : List ℤ → Type 0} → length v ≤ maxVariables → length q ≡ maxVariables → ((C : List ℤ) → List·Memᴰ C (clausesOf cs) → Calm Left v q 0 0 C)
     → Pending cs Left v q 0 0
-pending-start {cs} {v} small long calm = record { long = long; room = omega (arith, opens-le v); fits = λ k h. absurd (omega arith); calm = calm }
+pending-start {cs} {v} small long calm = record { queue = record { long = long; room = omega (arith, opens-le v); fits = λ k h. absurd (omega arith) }; calm = calm }
 
 -- less is left
 pending-less : {cs v q : List ℤ} {head end : ℕ} {Left Left′ : List ℤ → Type 0} → ((D : List ℤ) → List·Memᴰ D (clausesOf cs) → Left D → Left′ D ⊎ Quiet (trueIn v) D)
     → Pending cs Left v q head end → Pending cs Left′ v q head end
-pending-less {cs} {v} {q} {head} {end} {Left} {Left′} less t = record { long = t .long; room = t .room; fits = t .fits; calm = λ D m. go D m (t .calm D m) }
+pending-less {cs} {v} {q} {head} {end} {Left} {Left′} less t = record { queue = t .queue; calm = λ D m. go D m (t .calm D m) }
   where
     go : (D : List ℤ) → List·Memᴰ D (clausesOf cs) → Calm Left v q head end D → Calm Left′ v q head end D
     go D m (inl x) = ⊎-elim inl (λ y. inr (inl y)) (less D m x)
@@ -80,14 +80,14 @@ module _ {v : List ℤ} {l : ℤ} (s : Assigned (length v) v) (f : LiteralFits (
   module _ {cs q : List ℤ} {head end : ℕ} {Left Left′ : List ℤ → Type 0} (h : head ≤ end) (t : Pending cs Left v q head end)
       (less : (D : List ℤ) → List·Memᴰ D (clausesOf cs) → Left D → Left′ D ⊎ Quiet (trueIn (add v l)) D) where
     inside : end < length q
-    inside = omega (arith, t .long, end-inside end (t .room))
+    inside = omega (arith, t .queue .long, end-inside end (t .queue .room))
 
     same-size : length (add v l) ≡ length v
     same-size = add-shape (length v) v l (f .high) s .long
 
     fits-more : (k : ℕ) → k < end + 1 → Dec (k ≡ end) → LiteralFits (length (add v l)) (getD (set q end l) k (pos 0))
     fits-more k y (yes e) = rw (same-size, e, getD-set-same q end l (pos 0) inside) f
-    fits-more k y (no n) = rw (same-size, getD-set-other q end k l (pos 0) n) (t .fits k (omega arith))
+    fits-more k y (no n) = rw (same-size, getD-set-other q end k l (pos 0) n) (t .queue .fits k (omega arith))
 
     waits-still : (D : List ℤ) → Waits q head end D → Waits (set q end l) head (end + 1) D
     waits-still D w =
@@ -114,9 +114,11 @@ module _ {v : List ℤ} {l : ℤ} (s : Assigned (length v) v) (f : LiteralFits (
 
     pending-add : Pending cs Left′ (add v l) (set q end l) head (end + 1)
     pending-add = record {
-      long = length-set q end l ∙ t .long;
-      room = omega (arith, t .room, add-opens (length v) v l s (f .low) (f .high) not-true not-false);
-      fits = λ k y. fits-more k y (ℕ-discrete k end);
+      queue = record {
+        long = length-set q end l ∙ t .queue .long;
+        room = omega (arith, t .queue .room, add-opens (length v) v l s (f .low) (f .high) not-true not-false);
+        fits = λ k y. fits-more k y (ℕ-discrete k end);
+      };
       calm = λ D i. calm-more D i (t .calm D i);
     }
 
@@ -256,7 +258,7 @@ later-on {cs} {m} {from} {place} f C k h l e a = record { at = k; after = go (le
 pub following-start : {cs v q : List ℤ} {head end place : ℕ} → Ready cs v → head < end → Pending cs None v q head end → Place cs (negℤ (getD q head (pos 0))) 0 place
     → Following cs v v q (negℤ (getD q head (pos 0))) (head + 1) end place
 following-start {cs} {v} {q} {head} {end} {place} s h t f = record {
-  looks = record { steps = by-none cs v (s .shape); below = omega arith; pending = record { long = t .long; room = t .room; fits = t .fits; calm = λ C i. go C i (t .calm C i) } };
+  looks = record { steps = by-none cs v (s .shape); below = omega arith; pending = record { queue = t .queue; calm = λ C i. go C i (t .calm C i) } };
   here = f .here;
 }
   where

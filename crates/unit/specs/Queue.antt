@@ -37,11 +37,15 @@ pub record Waits (q : List ℤ) (head end : ℕ) (C : List ℤ) : Type 0 where
   pub upto : place < end
   pub among : List·Memᴰ (negℤ (getD q place (pos 0))) C
 
--- Every clause is quiet, or is left to be looked at, or one of its literals waits.
-pub record Pending (cs : List ℤ) (Left : List ℤ → Type 0) (v q : List ℤ) (head end : ℕ) : Type 0 where
+-- The first `end` places of the queue hold literals, and there is room for each variable that is open.
+pub record Used (v q : List ℤ) (end : ℕ) : Type 0 where
   pub long : length q ≡ maxVariables
   pub room : end + opens v ≤ maxVariables
   pub fits : (k : ℕ) → k < end → LiteralFits (length v) (getD q k (pos 0))
+
+-- Every clause is quiet, or is left to be looked at, or one of its literals waits.
+pub record Pending (cs : List ℤ) (Left : List ℤ → Type 0) (v q : List ℤ) (head end : ℕ) : Type 0 where
+  pub queue : Used v q end
   pub calm : (C : List ℤ) → List·Memᴰ C (clausesOf cs) → Left C ⊎ (Quiet (trueIn v) C ⊎ Waits q head end C)
 
 -- No clause is left.
@@ -90,7 +94,5 @@ literalAt i x = literalOf (ltZ (pos 0) x) (i + 1)
 
 -- The literals that v has and b has not are in the queue.
 pub record Queued (b v p : List ℤ) (end : ℕ) : Type 0 where
-  pub long : length p ≡ maxVariables
-  pub room : end + opens v ≤ maxVariables
-  pub fits : (k : ℕ) → k < end → LiteralFits (length v) (getD p k (pos 0))
+  pub queue : Used v p end
   pub there : (i : ℕ) → i < length v → getD b i (pos 0) ≢ getD v i (pos 0) → (k : ℕ) × (k < end) × (getD p k (pos 0) ≡ literalAt i (getD v i (pos 0)))

@@ -2,15 +2,12 @@
 use index::Index;
 use plan::Assignment;
 ghost use mathlib.Core.Path.{_≡_};
-ghost use mathlib.Core.Logic.{_↔_};
 ghost use Prim.Native.Nat.{_+_, _<_, _≤_};
-ghost use lib.IntN.{pos};
-ghost use lib.Dec.{T};
 ghost use lib.ListN.{length};
-ghost use Rattle.plan.specs.Ranged.{maxVariables, LiteralFits};
+ghost use Rattle.plan.specs.Ranged.{maxVariables};
 ghost use Rattle.plan.specs.Search.{Assigned, opens};
 ghost use Rattle.index.specs.Places.{Indexed};
-ghost use Rattle.unit.specs.Clauses.{Ready, Stops, Stop, SaysAt, Propagated};
+ghost use Rattle.unit.specs.Clauses.{Ready, Stop, SaysAt, Propagated};
 ghost use Rattle.unit.specs.Queue.{Applied, Pending, None, Leads, Known, Above, Since, Queued};
 
 // What a clause says of an assignment.
@@ -26,23 +23,7 @@ pub struct Followed {
     pub end: usize,
 }
 
-// Whether the look at a clause stops at this number: at its 0, and at a literal that is neither false nor the one passed over.
-fn stops(values: &[i8], literal: i16, passed: i16) -> bool
-    requires { ⌜ Assigned (length (now values)) (now values) ⌝ }
-    requires { ⌜ length (now values) ≤ maxVariables ⌝ }
-    requires { ⌜ ((literal ≡ pos 0 → ⊥) → LiteralFits (length (now values)) literal) ⌝ }
-    ensures { λ r. ⌜ (T r ↔ Stops (now (values .entry)) passed literal) ⌝ }
-{
-    if literal == 0 {
-        return true;
-    }
-    if literal == passed {
-        return false;
-    }
-    plan::value_of(values, literal) != -1
-}
-
-// The first place from `from` on at which the look at a clause stops.
+// The first place from `from` on at which the look at a clause stops: at its 0, and at a literal that is neither false nor the one passed over.
 fn stop_of(clauses: &[i16], from: usize, passed: i16, values: &[i8]) -> usize
     requires { ⌜ Ready (now clauses) (now values) ⌝ }
     requires { ⌜ from < length (now clauses) ⌝ }
@@ -51,8 +32,13 @@ fn stop_of(clauses: &[i16], from: usize, passed: i16, values: &[i8]) -> usize
     let mut at = from;
     loop {
         let literal = clauses[at];
-        if stops(values, literal, passed) {
+        if literal == 0 {
             return at;
+        }
+        if literal != passed {
+            if plan::value_of(values, literal) != -1 {
+                return at;
+            }
         }
         at += 1;
     }

@@ -1,17 +1,21 @@
+-- The search from all open: its answer, and what stands in the result.
 use mathlib.Core.Path.{_≡_, refl, sym, subst}
+use mathlib.Core.List.{List}
 use Prim.Native.Nat.{ℕ}
 use native.Mathlib.Omega.{arith}
 use borrow.Author.Needs.{needs}
-use lib.IntN.{pos}
+use lib.IntN.{ℤ, pos}
 use lib.ListN.{take, replicate}
 use Rattle.plan.specs.Meaning.{PlanFile}
-use Rattle.plan.specs.Search.{Assigned}
+use Rattle.plan.specs.Search.{Assigned, Searched}
 use Rattle.plan.specs.Tables.{planOf}
 use Rattle.plan.proofs.Places.{without-none}
 use Rattle.unit.proofs.Following.{known-nothing}
 use Rattle.closing.proofs.Lending.{lent-indexable}
 use Rattle.search.proofs.Firsts.{all-open-is, all-open-shape}
-use Rattle.search.proofs.Parts.{whole-plan, whole-impossible, whole-undecided}
+use Rattle.search.specs.Report.{verdictOf}
+use Rattle.search.specs.declared.Verdict.{Verdict}
+use Rattle.search.proofs.Parts.{report-whole}
 use Rattle.search.proofs.search.Statement.{statement}
 use Rattle.search.proofs.search.Tie as tie
 
@@ -42,6 +46,16 @@ settle-requires c κs =
       (d .before .before .index-of .ensures, (known-nothing _ _, (omega arith, without-none _ 0))),
     )
 
+-- after the search
+module _ (c : tie.After-settle) where
+  abbrev held : List ℤ
+  held = take (n (c .before .before)) (c .settle .result .plan .values)
+
+  searched : (v : Verdict) → c .settle .result .verdict ≡ v → Searched (whole (c .before .before)) (replicate (n (c .before .before)) (pos 0)) (begin (c .before .before) .args .budget) (verdictOf v held) (c .settle .result .count)
+  searched v e =
+      let d = c .before .before in
+      rw (sym e, sym (starts d)) (report-whole (whole d) (take (n d) (d .all-open .result .values)) held (begin d .args .budget) (c .settle .result .count) (c .settle .result .verdict) (c .settle .ensures))
+
 enum-told : tie.Need-enum-told
 enum-told c = search needs
 
@@ -58,33 +72,13 @@ same-length : tie.Need-same-length
 same-length c = search needs
 
 returns : tie.Need-returns
-returns c =
-    let s = c .before .before .before .before .before .before in
-    let d = s .before .before in
-    let e = c .before .write .ensures in
-    record {
-      searched = whole-plan (whole d) _ (replicate (n d) (pos 0)) (take (n d) (s .settle .result .plan .values)) (begin d .args .budget) (s .settle .result .count) (s .settle .result .verdict) (starts d) (s .settle .ensures)
-          (c .before .before .before .before .enum-told .given .1) (c .before .write .last .1 .1 .0) e;
-      keeps = same-length c;
-    }
+returns c = record { searched = rw (c .before .write .ensures) (searched (c .before .before .before .before .before .before) _ (c .before .before .before .before .enum-told .given .1)); keeps = same-length c }
 
 returns-2 : tie.Need-returns-2
-returns-2 c =
-    let s = c .before .before in
-    let d = s .before .before in
-    record {
-      searched = whole-impossible (whole d) _ (replicate (n d) (pos 0)) (take (n d) (s .settle .result .plan .values)) (begin d .args .budget) (s .settle .result .count) (s .settle .result .verdict) (starts d) (s .settle .ensures) (c .enum-told2 .given .1);
-      keeps = refl;
-    }
+returns-2 c = record { searched = searched (c .before .before) _ (c .enum-told2 .given .1); keeps = refl }
 
 returns-3 : tie.Need-returns-3
-returns-3 c =
-    let s = c .before .before in
-    let d = s .before .before in
-    record {
-      searched = whole-undecided (whole d) _ (replicate (n d) (pos 0)) (take (n d) (s .settle .result .plan .values)) (begin d .args .budget) (s .settle .result .count) (s .settle .result .verdict) (starts d) (s .settle .ensures) (c .enum-told3 .given .1);
-      keeps = refl;
-    }
+returns-3 c = record { searched = searched (c .before .before) _ (c .enum-told3 .given .1); keeps = refl }
 
 pub search-spec : {M : Type 1} → statement M
 search-spec =

@@ -1,18 +1,19 @@
+-- What a clause says is done: a clash, a literal more in the assignment and in the queue, or nothing.
 use mathlib.Core.Path.{_≡_, refl, ap, _∙_, subst}
 use mathlib.Core.List.{List}
 use Prim.Native.Nat.{_≤_, _<_}
 use native.Mathlib.Omega.{arith}
 use borrow.Author.Needs.{needs}
 use lib.IntN.{ℤ, pos, negsuc, natAbs}
-use lib.ListN.{length, set}
+use lib.ListN.{set}
 use mir.Syntax.{w16}
 use mir.Val.{SFits, ofZ, toZ}
 use mir.Facts.{toZ-ofZ}
 use Rattle.plan.specs.Meaning.{add}
-use Rattle.plan.specs.Ranged.{LiteralFits}
-use Rattle.plan.specs.ClauseTable.{part}
+use Rattle.plan.specs.Ranged.{maxVariables}
 use Rattle.plan.proofs.ClauseTable.{end-some}
 use Rattle.unit.specs.Clauses.{Says, SaysAt}
+use Rattle.unit.specs.declared.Said.{Said}
 use Rattle.unit.specs.declared.Said.the-variants.{Clash, Gives, Nothing}
 use Rattle.unit.proofs.Following.{end-inside}
 use Rattle.unit.proofs.apply.Statement.{statement}
@@ -21,47 +22,49 @@ use Rattle.unit.proofs.apply.Tie as tie
 look-at-requires : tie.Need-look-at-requires
 look-at-requires c κs = search needs
 
+-- what the clause says
+module _ (c : tie.After-look-at) where
+  abbrev begin : tie.Start
+  begin = c .before .before
+
+  abbrev values : List ℤ
+  values = begin .args .values .now
+
+  says : (said : Said) → c .look-at .result ≡ said → SaysAt (begin .args .clauses .now) (begin .args .at) values said
+  says said e = subst (λ r. SaysAt (begin .args .clauses .now) (begin .args .at) values r) e (c .look-at .ensures)
+
 enum-told : tie.Need-enum-told
 enum-told c = search needs
 
 enum-known-said : tie.Need-enum-known-said
 enum-known-said c = search needs
 
-small-fits : (l : ℤ) → natAbs l ≤ 512 → SFits w16 l
+small-fits : (l : ℤ) → natAbs l ≤ maxVariables → SFits w16 l
 small-fits (pos n) h = record { sfits = omega arith }
 small-fits (negsuc n) h = record { sfits = omega arith }
 
--- the clause gives a literal
+-- it gives a literal
 module _ (c : tie.After-said) where
-  abbrev begin : tie.Start
-  begin = c .before .before .before .before
-
-  abbrev table : List ℤ
-  table = begin .args .clauses .now
-
-  abbrev values : List ℤ
-  values = begin .args .values .now
+  abbrev looked : tie.After-look-at
+  looked = c .before .before
 
   abbrev literal : ℤ
   literal = c .said .given .0 .0
 
-  says : SaysAt table (begin .args .at) values (Gives literal)
-  says = subst (λ r. SaysAt table (begin .args .at) values r) (c .said .given .1) (c .before .before .look-at .ensures)
-
-  gives : (C : List ℤ) × Says values C (Gives literal)
-  gives = let e = end-some table (begin .args .at) (begin .pre .0 .table .ended) (begin .pre .1 .0) in (part table (begin .args .at) (e .0), says (e .0) (e .1))
-
-  fits : LiteralFits (length values) literal
-  fits = gives .1 .0
+  gives : (C : List ℤ) × Says (values looked) C (Gives literal)
+  gives =
+      let b = begin looked in
+      let e = end-some (b .args .clauses .now) (b .args .at) (b .pre .0 .table .ended) (b .pre .1 .0) in
+      (_, says looked (Gives literal) (c .said .given .1) (e .0) (e .1))
 
   number : toZ w16 (ofZ w16 literal) ≡ literal
-  number = toZ-ofZ (small-fits literal (omega (arith, fits .high, begin .pre .0 .small)))
+  number = toZ-ofZ (small-fits literal (omega (arith, gives .1 .0 .high, begin looked .pre .0 .small)))
 
-  room : begin .args .end < 512
-  room = let u = gives .1 .1 in end-inside (begin .pre .0 .shape) fits (u .not-true) (u .not-false) (begin .args .end) (begin .pre .1 .1)
+  room : begin looked .args .end < maxVariables
+  room = let u = gives .1 .1 in end-inside (begin looked .pre .0 .shape) (gives .1 .0) (u .not-true) (u .not-false) (begin looked .args .end) (begin looked .pre .1 .1)
 
 put-requires : tie.Need-put-requires
-put-requires c κs = let d = c .before .before in rw (number d) (begin d .pre .0 .small, fits d)
+put-requires c κs = let d = c .before .before in rw (number d) (begin (looked d) .pre .0 .small, gives d .1 .0)
 
 mul-literal : tie.Need-mul-literal
 mul-literal c = omega (arith, room (c .before .before .before .before))
@@ -79,9 +82,7 @@ same-length : tie.Need-same-length
 same-length c = search needs
 
 returns : tie.Need-returns
-returns c =
-    let b = c .before .before .before .before in
-    record { said = Clash; says = subst (λ r. SaysAt (b .args .clauses .now) (b .args .at) (b .args .values .now) r) (c .enum-told .given .1) (c .before .before .look-at .ensures); does = (refl, refl) }
+returns c = record { said = Clash; says = says (c .before .before) Clash (c .enum-told .given .1); does = (refl, refl) }
 
 same-length-2 : tie.Need-same-length-2
 same-length-2 c = search needs
@@ -89,23 +90,18 @@ same-length-2 c = search needs
 returns-2 : tie.Need-returns-2
 returns-2 c =
     let d = c .before .before .before .before in
+    let a = begin (looked d) .args in
     record {
       said = Gives (literal d);
-      says = says d;
-      does = (refl, refl, c .before .put .ensures ∙ ap (add (values d)) (number d), ap (set (begin d .args .queue .now) (begin d .args .end)) (number d));
+      says = says (looked d) (Gives (literal d)) (d .said .given .1);
+      does = (refl, refl, c .before .put .ensures ∙ ap (add (a .values .now)) (number d), ap (set (a .queue .now) (a .end)) (number d));
     }
 
 same-length-3 : tie.Need-same-length-3
 same-length-3 c = search needs
 
 returns-3 : tie.Need-returns-3
-returns-3 c =
-    let b = c .before .before .before .before in
-    record {
-      said = Nothing;
-      says = subst (λ r. SaysAt (b .args .clauses .now) (b .args .at) (b .args .values .now) r) (c .enum-told2 .given .1) (c .before .before .look-at .ensures);
-      does = (refl, refl, refl, refl);
-    }
+returns-3 c = record { said = Nothing; says = says (c .before .before) Nothing (c .enum-told2 .given .1); does = (refl, refl, refl, refl) }
 
 pub apply-spec : {M : Type 1} → statement M
 apply-spec =

@@ -30,10 +30,10 @@ module _ (c : tie.Start Inv-loop μ-loop) where
   literal = getD (c .args .queue .now) (c .args .head) (pos 0)
 
   short : c .args .head < 512
-  short = omega (arith, c .pre .1 .1 .0, c .pre .1 .1 .1 .room)
+  short = omega (arith, c .pre .1 .1 .0, c .pre .1 .1 .1 .queue .room)
 
   small : natAbs literal ≤ 512
-  small = omega (arith, c .pre .1 .1 .1 .fits (c .args .head) (c .pre .1 .1 .0) .high, c .pre .0 .small)
+  small = omega (arith, c .pre .1 .1 .1 .queue .fits (c .args .head) (c .pre .1 .1 .0) .high, c .pre .0 .small)
 
 mul-opposite : tie.Need-mul-opposite Inv-loop μ-loop
 mul-opposite c = omega (arith, short c)
@@ -76,7 +76,7 @@ apply-requires c κs =
     let t = c .before .before .before .before in
     let b = t .before .before .before .before in
     let s = c .before .before .start-of .ensures .before in
-    (ready-kept (b .pre .0) (t .loop .inv .looks .steps .shape), (omega (arith, c .before .before .before .loop-test .taken), t .loop .inv .looks .pending .room))
+    (ready-kept (b .pre .0) (t .loop .inv .looks .steps .shape), (omega (arith, c .before .before .before .loop-test .taken), t .loop .inv .looks .pending .queue .room))
 
 -- after a clause
 module _ (c : tie.After-apply Inv-loop μ-loop) where

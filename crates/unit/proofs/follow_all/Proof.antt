@@ -32,7 +32,7 @@ module _ (c : tie.After-follow Inv-loop μ-loop) where
   begin = turn .before
 
   inside : turn .loop .head < 512
-  inside = omega (arith, c .before .before .before .loop-test .taken, turn .loop .inv .goes refl .room)
+  inside = omega (arith, c .before .before .before .loop-test .taken, turn .loop .inv .goes refl .queue .room)
 
 returns : tie.Need-returns Inv-loop μ-loop
 returns c = let d = c .before .before in propagated-then (turn d .loop .inv) (leads-clash (d .follow .ensures) (c .if1 .taken))

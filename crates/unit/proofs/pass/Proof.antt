@@ -21,7 +21,7 @@ loop-holds c = passing-start (c .pre .0) (c .pre .1)
 apply-requires : tie.Need-apply-requires Inv-loop μ-loop
 apply-requires c κs =
     let t = c .before .before .before in
-    (ready-kept (t .before .pre .0) (t .loop .inv .looks .steps .shape), (c .before .before .loop-test .taken, t .loop .inv .looks .pending .room))
+    (ready-kept (t .before .pre .0) (t .loop .inv .looks .steps .shape), (c .before .before .loop-test .taken, t .loop .inv .looks .pending .queue .room))
 
 -- after a clause
 module _ (c : tie.After-apply Inv-loop μ-loop) where
