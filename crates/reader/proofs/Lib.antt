@@ -6,3 +6,4 @@ pub mod Accepts
 pub mod Exact
 pub mod Sample
 pub mod Lending
+pub mod Cutting

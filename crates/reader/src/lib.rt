@@ -1,5 +1,6 @@
 // reader: a plan file's bytes into the tables. Here: the head, then record after record, and the answer.
 mod fields;
+mod parts;
 mod records;
 mod refusals;
 
@@ -12,6 +13,12 @@ use fields::behind;
 use fields::head_ok;
 use fields::record_fits;
 use fields::word;
+pub use parts::used_atoms;
+pub use parts::used_clauses;
+pub use parts::used_edges;
+use plan::Atom;
+use plan::Clause;
+use plan::Edge;
 use plan::Plan;
 use plan::Refusal;
 use records::one_more;
@@ -113,11 +120,10 @@ fn start(file: &[u8]) -> Plan
 // Reads a plan file into the tables.
 pub fn read_into(
     file: &[u8],
-    edges: &mut [u16],
-    atoms: &mut [u16],
-    clauses: &mut [i16],
+    edges: &mut [u16; Edge::TABLE],
+    atoms: &mut [u16; Atom::TABLE],
+    clauses: &mut [i16; Clause::TABLE],
 ) -> ReadAnswer
-    requires { ⌜ (length (now edges) ≡ 768) × (length (now atoms) ≡ 320) × (length (now clauses) ≡ 5120) ⌝ }
     ensures { λ r. ⌜ Answers (readPlan (now (file .entry))) r (now (edges .exit)) (now (atoms .exit)) (now (clauses .exit)) ⌝ }
 {
     let number = head(file);
