@@ -5,3 +5,4 @@ pub mod Stating
 pub mod Reasons
 pub mod Demand2
 pub mod Demand3
+pub mod Main
