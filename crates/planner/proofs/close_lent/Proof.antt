@@ -22,9 +22,6 @@ module _ (c : tie.Start) where
   abbrev old : List ℤ
   old = c .args .result .now
 
-returns : tie.Need-returns
-returns c = let s = c .before .before .before .before in meets (length-fails (φ s) (g s) _ (c .before .wide .ensures) (c .if1 .taken)) (named _, refl)
-
 -- the given length is right
 module _ (c : tie.Else1) where
   abbrev s : tie.Start
@@ -33,9 +30,6 @@ module _ (c : tie.Else1) where
   past-given : closeChecks (g s) (old s) (φ s) ≡ requireLength (φ s) (old s) (requireValues isValue (g s) (clear (φ s)))
   past-given = length-holds (φ s) (g s) _ (c .before .wide .ensures) (c .if1 .left)
 
-returns-2 : tie.Need-returns-2
-returns-2 c = let d = c .before in meets (past-given d ∙ length-fails (φ (s d)) (old (s d)) _ (d .before .wide .ensures) (c .if2 .taken)) (named _, refl)
-
 -- both lengths are right, and where the first value stands that is not taken
 module _ (c : tie.After-first-not) where
   abbrev d : tie.Else1
@@ -43,9 +37,6 @@ module _ (c : tie.After-first-not) where
 
   past : closeChecks (g (s d)) (old (s d)) (φ (s d)) ≡ requireValues isValue (g (s d)) (clear (φ (s d)))
   past = past-given d ∙ length-holds (φ (s d)) (old (s d)) _ (d .before .wide .ensures) (c .before .if2 .left)
-
-returns-3 : tie.Need-returns-3
-returns-3 c = let f = c .before in meets (past f ∙ values-fail isValue (g (s (d f))) _ (f .first-not .ensures) (c .if3 .taken)) (named _, refl)
 
 close-into-requires : tie.Need-close-into-requires
 close-into-requires c κs =
@@ -63,10 +54,10 @@ close-lent-spec =
     tie.close
     (tie.spec
     (λ c κs. search needs)
-    returns
-    returns-2
+    (λ c. let s = c .before .before .before .before in meets (length-fails (φ s) (g s) _ (c .before .wide .ensures) (c .if1 .taken)) (named _, refl))
+    (λ c. let d = c .before in meets (past-given d ∙ length-fails (φ (s d)) (old (s d)) _ (d .before .wide .ensures) (c .if2 .taken)) (named _, refl))
     (λ c κs. search needs)
-    returns-3
+    (λ c. let f = c .before in meets (past f ∙ values-fail isValue (g (s (d f))) _ (f .first-not .ensures) (c .if3 .taken)) (named _, refl))
     close-into-requires
     (λ c. search needs)
     returns-4)

@@ -30,12 +30,6 @@ module _ (c : tie.After-first-not) where
   past : judgeChecks (a s) (φ s) ≡ requireValues isSet (a s) (clear (φ s))
   past = length-holds (φ s) (a s) _ (c .before .before .wide .ensures) (c .before .if1 .left)
 
-returns : tie.Need-returns
-returns c = let s = c .before .before .before .before in meets (length-fails (φ s) (a s) _ (c .before .wide .ensures) (c .if1 .taken)) (named _)
-
-returns-2 : tie.Need-returns-2
-returns-2 c = let f = c .before in meets (past f ∙ values-fail isSet (a (s f)) _ (f .first-not .ensures) (c .if2 .taken)) (named _)
-
 judge-requires : tie.Need-judge-requires
 judge-requires c κs =
     let f = c .before in
@@ -52,27 +46,18 @@ module _ (c : tie.After-judge) where
   judged : {v : verdict.Verdict} → c .judge .result ≡ v → Judged (φ (s f)) (a (s f)) (verdictOf v)
   judged e = subst (λ v. Judged (φ (s f)) (a (s f)) (verdictOf v)) e (c .judge .ensures)
 
-returns-3 : tie.Need-returns-3
-returns-3 c = let j = c .before .before in meets (cleared j) (judged j (c .enum-told .given .1))
-
-returns-4 : tie.Need-returns-4
-returns-4 c = let j = c .before .before .before in meets (cleared j) (judged j (c .before .verdict .given .1))
-
-returns-5 : tie.Need-returns-5
-returns-5 c = let j = c .before .before .before in meets (cleared j) (judged j (c .before .verdict2 .given .1))
-
 pub judge-lent-spec : {M : Type 1} → statement M
 judge-lent-spec =
     tie.close
     (tie.spec
     (λ c κs. search needs)
-    returns
+    (λ c. let s = c .before .before .before .before in meets (length-fails (φ s) (a s) _ (c .before .wide .ensures) (c .if1 .taken)) (named _))
     (λ c κs. search needs)
-    returns-2
+    (λ c. let f = c .before in meets (past f ∙ values-fail isSet (a (s f)) _ (f .first-not .ensures) (c .if2 .taken)) (named _))
     judge-requires
     (λ c. search needs)
     (λ c. search needs)
     (λ c. search needs)
-    returns-3
-    returns-4
-    returns-5)
+    (λ c. let j = c .before .before in meets (cleared j) (judged j (c .enum-told .given .1)))
+    (λ c. let j = c .before .before .before in meets (cleared j) (judged j (c .before .verdict .given .1)))
+    (λ c. let j = c .before .before .before in meets (cleared j) (judged j (c .before .verdict2 .given .1))))

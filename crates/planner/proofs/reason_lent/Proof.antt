@@ -32,9 +32,6 @@ module _ (c : tie.Start) where
   atom-count : length (φ .atoms) ≡ c .args .plan .atoms
   atom-count = atoms-length (c .args .atoms .now) (c .args .plan .atoms) (c .pre .atoms)
 
-returns : tie.Need-returns
-returns c = let s = c .before .before .before .before in meets (length-fails (φ s) (a s) _ (c .before .wide .ensures) (c .if1 .taken)) (named _, refl)
-
 -- the length is right, and where the first value stands that is not taken
 module _ (c : tie.After-first-not) where
   abbrev start : tie.Start
@@ -43,9 +40,6 @@ module _ (c : tie.After-first-not) where
   past-length : reasonChecks (a start) (start .args .atom) (φ start) ≡ requireValues isValue (a start) (requireAtom (φ start) (start .args .atom) (clear (φ start)))
   past-length = length-holds (φ start) (a start) _ (c .before .before .wide .ensures) (c .before .if1 .left)
 
-returns-2 : tie.Need-returns-2
-returns-2 c = let f = c .before in meets (past-length f ∙ values-fail isValue (a (start f)) _ (f .first-not .ensures) (c .if2 .taken)) (named _, refl)
-
 -- the values are right too
 module _ (c : tie.Else2) where
   abbrev s : tie.Start
@@ -53,12 +47,6 @@ module _ (c : tie.Else2) where
 
   past-values : reasonChecks (a s) (s .args .atom) (φ s) ≡ requireAtom (φ s) (s .args .atom) (clear (φ s))
   past-values = past-length (c .before) ∙ values-hold isValue (a s) _ (c .before .first-not .ensures) (c .if2 .left)
-
-returns-3 : tie.Need-returns-3
-returns-3 c = let e = c .before in meets (past-values e ∙ atom-zero (φ (s e)) (s e .args .atom) _ (atom-count (s e)) (c .if3 .taken)) (named _, refl)
-
-returns-4 : tie.Need-returns-4
-returns-4 c = let e = c .before .before in meets (past-values e ∙ atom-beyond (φ (s e)) (s e .args .atom) _ (atom-count (s e)) (c .if4 .taken)) (named _, refl)
 
 reason-requires : tie.Need-reason-requires
 reason-requires c κs =
@@ -90,28 +78,16 @@ module _ (c : tie.After-reason) where
       answered (φ (s e)) (a (s e)) (s e .args .atom) (old (s e)) new x
       (subst (λ y. AnswerIs (φ (s e)) (a (s e)) (atom (φ (s e) .atoms) (s e .args .atom - 1)) y (old (s e)) new) q (c .reason .ensures (φ (s e)) refl))
 
-returns-5 : tie.Need-returns-5
-returns-5 c = let r = c .before .before .before .before in meets (cleared r) (answer-of r (c .before .answer .given .1))
-
-returns-6 : tie.Need-returns-6
-returns-6 c = let r = c .before .before .before .before in meets (cleared r) (answer-of r (c .before .answer2 .given .1))
-
-returns-7 : tie.Need-returns-7
-returns-7 c = let r = c .before .before .before in meets (cleared r) (answer-of r (c .enum-told .given .1))
-
-returns-8 : tie.Need-returns-8
-returns-8 c = let r = c .before .before .before .before in meets (cleared r) (answer-of r (c .before .answer3 .given .1))
-
 pub reason-lent-spec : {M : Type 1} → statement M
 reason-lent-spec =
     tie.close
     (tie.spec
     (λ c κs. search needs)
-    returns
+    (λ c. let s = c .before .before .before .before in meets (length-fails (φ s) (a s) _ (c .before .wide .ensures) (c .if1 .taken)) (named _, refl))
     (λ c κs. search needs)
-    returns-2
-    returns-3
-    returns-4
+    (λ c. let f = c .before in meets (past-length f ∙ values-fail isValue (a (start f)) _ (f .first-not .ensures) (c .if2 .taken)) (named _, refl))
+    (λ c. let e = c .before in meets (past-values e ∙ atom-zero (φ (s e)) (s e .args .atom) _ (atom-count (s e)) (c .if3 .taken)) (named _, refl))
+    (λ c. let e = c .before .before in meets (past-values e ∙ atom-beyond (φ (s e)) (s e .args .atom) _ (atom-count (s e)) (c .if4 .taken)) (named _, refl))
     (λ c. search needs)
     reason-requires
     (λ c. search needs)
@@ -119,10 +95,10 @@ reason-lent-spec =
     (λ c. search needs)
     (λ c. search needs)
     (λ c. search needs)
-    returns-5
+    (λ c. let r = c .before .before .before .before in meets (cleared r) (answer-of r (c .before .answer .given .1)))
     (λ c. search needs)
-    returns-6
+    (λ c. let r = c .before .before .before .before in meets (cleared r) (answer-of r (c .before .answer2 .given .1)))
     (λ c. search needs)
-    returns-7
+    (λ c. let r = c .before .before .before in meets (cleared r) (answer-of r (c .enum-told .given .1)))
     (λ c. search needs)
-    returns-8)
+    (λ c. let r = c .before .before .before .before in meets (cleared r) (answer-of r (c .before .answer3 .given .1))))

@@ -21,9 +21,6 @@ module _ (c : tie.Start) where
   abbrev old : List ℤ
   old = c .args .result .now
 
-returns : tie.Need-returns
-returns c = let s = c .before .before .before .before in meets (length-fails (φ s) (old s) _ (c .before .wide .ensures) (c .if1 .taken)) (named _, refl)
-
 -- the length is right: what the search answered
 module _ (c : tie.After-search) where
   abbrev s : tie.Start
@@ -35,28 +32,19 @@ module _ (c : tie.After-search) where
   answers : {f : found.Found} → c .search .result ≡ f → Answers (φ s) (s .args .budget) (old s) (c .search .last .1 .1 .1 .1 .1 .0) f
   answers e = subst (λ x. Answers (φ s) (s .args .budget) (old s) (c .search .last .1 .1 .1 .1 .1 .0) x) e (c .search .ensures)
 
-returns-2 : tie.Need-returns-2
-returns-2 c = let d = c .before .before .before .before in meets (cleared d) (answers d (c .before .found .given .1) .searched)
-
-returns-3 : tie.Need-returns-3
-returns-3 c = let d = c .before .before .before .before in let r = answers d (c .before .found2 .given .1) in meets (cleared d) (r .searched, r .keeps)
-
-returns-4 : tie.Need-returns-4
-returns-4 c = let d = c .before .before .before .before in let r = answers d (c .before .found3 .given .1) in meets (cleared d) (r .searched, r .keeps)
-
 pub search-lent-spec : {M : Type 1} → statement M
 search-lent-spec =
     tie.close
     (tie.spec
     (λ c κs. search needs)
-    returns
+    (λ c. let s = c .before .before .before .before in meets (length-fails (φ s) (old s) _ (c .before .wide .ensures) (c .if1 .taken)) (named _, refl))
     (λ c κs. search needs)
     (λ c. search needs)
     (λ c. search needs)
     (λ c. search needs)
     (λ c. search needs)
-    returns-2
+    (λ c. let d = c .before .before .before .before in meets (cleared d) (answers d (c .before .found .given .1) .searched))
     (λ c. search needs)
-    returns-3
+    (λ c. let d = c .before .before .before .before in let r = answers d (c .before .found2 .given .1) in meets (cleared d) (r .searched, r .keeps))
     (λ c. search needs)
-    returns-4)
+    (λ c. let d = c .before .before .before .before in let r = answers d (c .before .found3 .given .1) in meets (cleared d) (r .searched, r .keeps)))
