@@ -2,18 +2,19 @@
 -- the first one in the document's order, and the count is exact.
 -- Assumes nothing.
 use mathlib.Core.Path.{_≡_, refl, subst, _∙_, ap}
-use mathlib.Core.Logic.{_⊎_, inr}
+use mathlib.Core.Logic.{_⊎_}
 use mathlib.Core.List.{List}
 use Prim.Native.Nat.{ℕ, zero, suc, _-_, _^_, _≤_, _<_}
 use native.Mathlib.Omega.{arith}
 use lib.IntN.{ℤ, pos, negsuc}
 use lib.Dec.{T}
-use lib.ListN.{length, getD, replicate, length-replicate}
+use lib.ListN.{length, replicate}
 use Rattle.plan.specs.Meaning.{PlanFile, isOn, isOff, value, trueIn, _⊆_, IsPlan}
 use Rattle.plan.specs.Search.{opens, Closes, Outcome, nothing, found, Tree, Before, FirstPlan, Right, decided, undecided, Searched, within, beyond}
 use Rattle.plan.specs.Ranged.{Ranged}
 use Rattle.plan.proofs.Exists.{searching-is}
 use Rattle.plan.proofs.Search.{tree-right, count-below, one-search}
+use Rattle.search.proofs.Firsts.{each-open, all-open-shape}
 use Rattle.reader.specs.Format.{accepted, readPlan}
 use Rattle.reader.proofs.Accepts.{read-ranged}
 use Rattle.planner.specs.declared.SearchAnswer.{SearchAnswer}
@@ -23,20 +24,15 @@ use Rattle.planner.specs.Search.{allOpen, searchChecks, SearchCase, Sear
 use Rattle.planner.proofs.Stating.{met, checked, length-holds}
 
 -- nothing is on or off where all is open
-open-at : (n i : ℕ) → getD (replicate n (pos 0)) i (pos 0) ≡ pos 0
-open-at zero i = refl
-open-at (suc n) zero = refl
-open-at (suc n) (suc i) = open-at n i
-
 none-true : (n : ℕ) (a : List ℤ) → trueIn (replicate n (pos 0)) ⊆ trueIn a
 unfolding trueIn value
 none-true n a (pos zero) t = absurd t
-none-true n a (pos (suc i)) t = absurd (subst (λ z. T (isOn z)) (open-at n i) t)
-none-true n a (negsuc i) t = absurd (subst (λ z. T (isOff z)) (open-at n i) t)
+none-true n a (pos (suc i)) t = absurd (subst (λ z. T (isOn z)) (each-open n i) t)
+none-true n a (negsuc i) t = absurd (subst (λ z. T (isOff z)) (each-open n i) t)
 
 -- B is there: the search from all open has a tree
 pub whole-search : (φ : PlanFile) → Ranged φ → (o : Outcome) × (B : ℕ) × Tree φ (allOpen φ) o B
-whole-search φ ok = (_, _, searching-is φ ok (allOpen φ) (record { long = length-replicate (φ .variables) (pos 0); each = λ i h. inr (inr (open-at (φ .variables) i)) }))
+whole-search φ ok = (_, _, searching-is φ ok (allOpen φ) (all-open-shape (φ .variables)))
 
 -- an accepted file, and a result buffer of the right length
 module _ (file : List ℕ) (φ : PlanFile) (reads : readPlan file ≡ accepted φ) (budget : ℕ) (before after : List ℤ) (long : length before ≡ φ .variables) where

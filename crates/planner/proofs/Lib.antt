@@ -1,8 +1,6 @@
-pub mod Reading
 pub mod Unique
 pub mod Places
 pub mod Stating
-pub mod Reasons
 pub mod Demand2
 pub mod Demand3
 pub mod Main

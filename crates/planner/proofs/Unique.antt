@@ -52,6 +52,10 @@ one-name n v x y h k = one-refusal x y (sym (h .number) ∙ k .number) (sym (h .
 one-refuses : {A : Type 0} {refused : Refusal → A} {n v : ℕ} {r s : A} → Refuses refused n v r → Refuses refused n v s → r ≡ s
 one-refuses {refused = refused} {n = n} {v = v} h k = h .is ∙ ap refused (one-name n v (h .why) (k .why) (h .names) (k .names)) ∙ sym (k .is)
 
+-- no second answer with its buffer fits
+abbrev pub OneLeft : {A : Type 0} → (List ℤ → A → Type 0) → Type 0
+OneLeft {A} Is = (after after′ : List ℤ) (r s : A) → Is after r → Is after′ s → (r ≡ s) × (after ≡ after′)
+
 -- x is what an outcome tells that Leads
 pub record Told {O X : Type 0} (Leads : O → Type 0) (tell : O → X) (x : X) : Type 0 where
   pub of : O
@@ -72,9 +76,9 @@ module _ {A O : Type 0} (refused : Refusal → A) (Leads : PlanFile → O → Ty
       go (clear φ) x y = one-told φ tell (led φ r x) (led φ s y)
 
   -- a call with one
-  unique-left : (tell : O → A × List ℤ) (before : List ℤ) (C : A → List ℤ → PlanFile → Type 0) → ((φ : PlanFile) (r : A) (after : List ℤ) → C r after φ → Told (Leads φ) tell (r, after)) → {m : Met} (r s : A)
-      (after after′ : List ℤ) → KeepingBy m refused (C r after) before after r → KeepingBy m refused (C s after′) before after′ s → (r ≡ s) × (after ≡ after′)
-  unique-left tell before C led {m} r s after after′ h k = go m (h .case) (k .case)
+  unique-left : (tell : O → A × List ℤ) (before : List ℤ) (C : A → List ℤ → PlanFile → Type 0) → ((φ : PlanFile) (r : A) (after : List ℤ) → C r after φ → Told (Leads φ) tell (r, after)) → {m : Met}
+      → OneLeft (λ after r. KeepingBy m refused (C r after) before after r)
+  unique-left tell before C led {m} after after′ r s h k = go m (h .case) (k .case)
     where
       go : (m : Met) → Case (λ n v. Refuses refused n v r × Kept before after) (C r after) m → Case (λ n v. Refuses refused n v s × Kept before after′) (C s after′) m
           → (r ≡ s) × (after ≡ after′)
@@ -138,10 +142,9 @@ module _ (given before : List ℤ) where
   close-led φ close.Closed after h = record { of = found after; is = h; told = refl }
   close-led φ close.Clash after h = record { of = nothing; is = h .0; told = kept (h .1) }
 
-pub close-unique : (file : List ℕ) (given before after after′ : List ℤ) (r s : CloseAnswer) → ClosedIs file given before after r → ClosedIs file given before after′ s
-    → (r ≡ s) × (after ≡ after′)
-close-unique file given before after after′ r s h k =
-    unique-left close.Refused (λ φ. CloseIs φ given) (one-close given before) (toldClose given before) before (λ r after φ. CloseCase φ given before after r) (close-led given before) r s after after′ h k
+pub close-unique : (file : List ℕ) (given before : List ℤ) → OneLeft (ClosedIs file given before)
+close-unique file given before =
+    unique-left close.Refused (λ φ. CloseIs φ given) (one-close given before) (toldClose given before) before (λ r after φ. CloseCase φ given before after r) (close-led given before)
 
 -- ---- reason
 
@@ -178,10 +181,9 @@ module _ (a : List ℤ) (k : ℕ) (before : List ℤ) where
   reason-led φ (reason.Fails n) after h = record { of = fails (h .0); is = h .1; told = written-out reason.Fails (h .0) after n (h .2) }
   reason-led φ reason.Open after h = record { of = neither; is = h .0; told = kept (h .1) }
 
-pub reason-unique : (file : List ℕ) (a : List ℤ) (i : ℕ) (before after after′ : List ℤ) (r s : ReasonAnswer)
-    → ReasonedIs file a i before after r → ReasonedIs file a i before after′ s → (r ≡ s) × (after ≡ after′)
-reason-unique file a i before after after′ r s h k =
-    unique-left reason.Refused (Gives a i before) (λ φ. reasons.reason-unique φ a (atom (φ .atoms) (i - 1))) (toldReason a i before) before (λ r after φ. ReasonCase φ a i before after r) (reason-led a i before) r s after after′ h k
+pub reason-unique : (file : List ℕ) (a : List ℤ) (i : ℕ) (before : List ℤ) → OneLeft (ReasonedIs file a i before)
+reason-unique file a i before =
+    unique-left reason.Refused (Gives a i before) (λ φ. reasons.reason-unique φ a (atom (φ .atoms) (i - 1))) (toldReason a i before) before (λ r after φ. ReasonCase φ a i before after r) (reason-led a i before)
 
 -- ---- search
 
@@ -203,10 +205,9 @@ module _ (budget : ℕ) (before : List ℤ) where
   search-led φ (search.Impossible b) after h = record { of = (decided nothing, b); is = h .0; told = kept (h .1) }
   search-led φ (search.Undecided b) after h = record { of = (undecided, b); is = h .0; told = kept (h .1) }
 
-pub search-unique : (file : List ℕ) (budget : ℕ) (before after after′ : List ℤ) (r s : SearchAnswer)
-    → SearchedIs file budget before after r → SearchedIs file budget before after′ s → (r ≡ s) × (after ≡ after′)
-search-unique file budget before after after′ r s h k =
-    unique-left search.Refused (Ends budget before) (one-end budget before) (toldSearch budget before) before (λ r after φ. SearchCase φ budget before after r) (search-led budget before) r s after after′ h k
+pub search-unique : (file : List ℕ) (budget : ℕ) (before : List ℤ) → OneLeft (SearchedIs file budget before)
+search-unique file budget before =
+    unique-left search.Refused (Ends budget before) (one-end budget before) (toldSearch budget before) before (λ r after φ. SearchCase φ budget before after r) (search-led budget before)
 
 -- ---- write_clauses
 
@@ -223,7 +224,6 @@ module _ (before : List ℤ) where
       let w = h .wrote in
       record { of = φ; is = refl; told = λ i. (write.Written (x i) (y i) (z i), w i) }
 
-pub write-clauses-unique : (file : List ℕ) (before after after′ : List ℤ) (r s : WriteAnswer) → WrittenIs file before after r → WrittenIs file before after′ s
-    → (r ≡ s) × (after ≡ after′)
-write-clauses-unique file before after after′ r s h k =
-    unique-left write.Refused (λ φ o. o ≡ φ) (λ φ o p e f. e ∙ sym f) (toldWrite before) before (λ r after φ. WriteCase φ before after r) (write-led before) r s after after′ h k
+pub write-clauses-unique : (file : List ℕ) (before : List ℤ) → OneLeft (WrittenIs file before)
+write-clauses-unique file before =
+    unique-left write.Refused (λ φ o. o ≡ φ) (λ φ o p e f. e ∙ sym f) (toldWrite before) before (λ r after φ. WriteCase φ before after r) (write-led before)
