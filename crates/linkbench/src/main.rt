@@ -37,17 +37,14 @@ fn report(out: &mut [u8; SIZE], operation: u8, repetitions: u32, file: &[u8]) ->
     match reading {
         ReadAnswer::Refused(why) => text::refusal_line(out, why),
         ReadAnswer::Accepted(plan) => {
-            let e = plan.edges * Edge::NUMBERS;
-            let b = plan.atoms * Atom::NUMBERS;
-            let c = plan.literals + plan.clauses;
             let sum = done(
                 operation,
                 repetitions,
                 file,
                 plan,
-                &edges[..e],
-                &atoms[..b],
-                &clauses[..c],
+                reader::used_edges(plan, &edges),
+                reader::used_atoms(plan, &atoms),
+                reader::used_clauses(plan, &clauses),
             );
             line(out, sum)
         }

@@ -60,8 +60,17 @@ fn read_once(file: &[u8], left: u32) -> u64 {
     let mut atoms = [0u16; Atom::TABLE];
     let mut clauses = [0i16; Clause::TABLE];
     reader::read_into(file, &mut edges, &mut atoms, &mut clauses);
-    let sum = wrapping_add_u64(look_at(&edges, left), look_at(&atoms, left));
-    wrapping_add_u64(sum, look_at16(&clauses, left))
+    look_in(&edges, &atoms, &clauses, left)
+}
+
+fn look_in(
+    edges: &[u16; Edge::TABLE],
+    atoms: &[u16; Atom::TABLE],
+    clauses: &[i16; Clause::TABLE],
+    left: u32,
+) -> u64 {
+    let sum = wrapping_add_u64(look_at(edges, left), look_at(atoms, left));
+    wrapping_add_u64(sum, look_at16(clauses, left))
 }
 
 // Fills the neighbour sets of the over graph of all open each time.

@@ -3,45 +3,41 @@
 -- Assumes nothing.
 use mathlib.Core.Path.{_≡_, refl, subst, _∙_, ap}
 use mathlib.Core.Logic.{_⊎_}
-use mathlib.Core.Bool.{Bool}
 use mathlib.Core.List.{List}
 use Prim.Native.Nat.{ℕ, zero, suc, _-_, _^_, _≤_, _<_}
 use native.Mathlib.Omega.{arith}
 use lib.IntN.{ℤ, pos, negsuc}
 use lib.Dec.{T}
-use lib.ListN.{length, getD, replicate}
-use borrow.Author.Tests.{eq-eqb}
+use lib.ListN.{length, replicate}
 use Rattle.plan.specs.Meaning.{PlanFile, isOn, isOff, value, trueIn, _⊆_, IsPlan}
 use Rattle.plan.specs.Search.{opens, Closes, Outcome, nothing, found, Tree, Before, FirstPlan, Right, decided, undecided, Searched, within, beyond}
+use Rattle.plan.specs.Ranged.{Ranged}
+use Rattle.plan.proofs.Exists.{searching-is}
 use Rattle.plan.proofs.Search.{tree-right, count-below, one-search}
-use Rattle.reader.specs.Format.{Reading, accepted, readPlan}
+use Rattle.search.proofs.Firsts.{each-open, all-open-shape}
+use Rattle.reader.specs.Format.{accepted, readPlan}
 use Rattle.reader.proofs.Accepts.{read-ranged}
 use Rattle.planner.specs.declared.SearchAnswer.{SearchAnswer}
 use Rattle.planner.specs.declared.SearchAnswer.the-variants.{Refused, Plan, Impossible, Undecided}
-use Rattle.planner.specs.Refusing.{Met, clear, require, afterReading}
-use Rattle.planner.specs.Find.{allOpen, searchChecks, searchMet, SearchCase, SearchedIs}
+use Rattle.planner.specs.Refusing.{clear}
+use Rattle.planner.specs.Search.{allOpen, searchChecks, SearchCase, SearchedIs}
+use Rattle.planner.proofs.Stating.{met, checked, length-holds}
 
 -- nothing is on or off where all is open
-open-at : (n i : ℕ) → getD (replicate n (pos 0)) i (pos 0) ≡ pos 0
-open-at zero i = refl
-open-at (suc n) zero = refl
-open-at (suc n) (suc i) = open-at n i
-
 none-true : (n : ℕ) (a : List ℤ) → trueIn (replicate n (pos 0)) ⊆ trueIn a
 unfolding trueIn value
 none-true n a (pos zero) t = absurd t
-none-true n a (pos (suc i)) t = absurd (subst (λ z. T (isOn z)) (open-at n i) t)
-none-true n a (negsuc i) t = absurd (subst (λ z. T (isOff z)) (open-at n i) t)
+none-true n a (pos (suc i)) t = absurd (subst (λ z. T (isOn z)) (each-open n i) t)
+none-true n a (negsuc i) t = absurd (subst (λ z. T (isOff z)) (each-open n i) t)
+
+-- B is there: the search from all open has a tree
+pub whole-search : (φ : PlanFile) → Ranged φ → (o : Outcome) × (B : ℕ) × Tree φ (allOpen φ) o B
+whole-search φ ok = (_, _, searching-is φ ok (allOpen φ) (all-open-shape (φ .variables)))
 
 -- an accepted file, and a result buffer of the right length
 module _ (file : List ℕ) (φ : PlanFile) (reads : readPlan file ≡ accepted φ) (budget : ℕ) (before after : List ℤ) (long : length before ≡ φ .variables) where
-  cleared : searchMet file before ≡ clear φ
-  unfolding searchMet
-  cleared = ap (λ (q : Reading). afterReading q (searchChecks before)) reads ∙ ap (λ (b : Bool). require b 9 (φ .variables) (clear φ)) (eq-eqb (length before) (φ .variables) long)
-
-  case-of : (r : SearchAnswer) → SearchedIs file budget before after r → SearchCase (clear φ) budget before after r
-  unfolding SearchedIs
-  case-of r h = subst (λ (m : Met). SearchCase m budget before after r) cleared h
+  case-of : (r : SearchAnswer) → SearchedIs file budget before after r → SearchCase φ budget before after r
+  case-of r h = met (checked file (searchChecks before) reads ∙ length-holds φ before (clear φ) refl long) h
 
   right : (o : Outcome) (b : ℕ) → Searched φ (allOpen φ) budget (decided o) b → Right φ (allOpen φ) o
   right o b (within t h) = tree-right φ (read-ranged file φ reads) t

@@ -4,33 +4,36 @@ use mathlib.Core.Path.{_≡_, refl, sym, subst, _∙_, ap}
 use mathlib.Core.Bool.{Bool, true, false}
 use mathlib.Core.List.{List}
 use Prim.Native.Nat.{ℕ}
+use native.Mathlib.Omega.{arith}
 use lib.IntN.{ℤ}
 use lib.Dec.{leb}
 use lib.ListN.{length, take, drop}
 use lib.Seq.{take-at}
 use Rattle.plan.specs.Meaning.{PlanFile}
+use Rattle.plan.specs.Buffers.{Kept}
 use Rattle.plan.specs.Tables.{clausesOf}
 use Rattle.plan.specs.Written.{flat, written, ExactlyOne}
 use Rattle.encoding.proofs.Literals.{read-back}
 use Rattle.encoding.proofs.Continued.{exactly-one}
-use Rattle.reader.specs.Format.{Reading, accepted, readPlan}
+use Rattle.reader.specs.Format.{accepted, readPlan}
 use Rattle.reader.proofs.Accepts.{read-ranged}
-use Rattle.planner.specs.declared.WriteAnswer.the-variants.{Written}
-use Rattle.planner.specs.Refusing.{clear, require, afterReading}
-use Rattle.planner.specs.Write.{writeChecks, writeMet, WrittenOut, WriteCase, WrittenIs}
+use Rattle.planner.specs.declared.WriteAnswer.the-variants.{Refused, Written}
+use Rattle.planner.specs.Refusing.{clear, require, Refuses, Case}
+use Rattle.planner.specs.WriteClauses.{writeChecks, WrittenOut, WriteCase, WriteBy, WrittenIs}
+use Rattle.planner.proofs.Stating.{met, checked}
 
 -- what the call met, where it wrote
-wrote-clear : (φ : PlanFile) (before after : List ℤ) (v c n : ℕ) → WriteCase (writeChecks before φ) before after (Written v c n) → WrittenOut φ before after v c n
-wrote-clear φ before after v c n h = go (leb (length (flat (written φ))) (length before)) h
+wrote-clear : (φ : PlanFile) (before after : List ℤ) (v c n : ℕ) → WriteBy (writeChecks before φ) before after (Written v c n) → WrittenOut φ before after v c n
+wrote-clear φ before after v c n h = go (leb (length (flat (written φ))) (length before)) (h .case)
   where
-    go : (b : Bool) → WriteCase (require b 12 (length (flat (written φ))) (clear φ)) before after (Written v c n) → WrittenOut φ before after v c n
+    go : (b : Bool) → Case (λ k w. Refuses Refused k w (Written v c n) × Kept before after) (λ ψ. WriteCase ψ before after (Written v c n)) (require b 12 (length (flat (written φ))) (clear φ))
+        → WrittenOut φ before after v c n
     go true k = k
-    go false k = absurd k
+    go false k = let e = k .0 .is in let z : _≡_ {A = ℕ} 0 1 = cc in absurd (omega arith)
 
 module _ (file : List ℕ) (φ : PlanFile) (reads : readPlan file ≡ accepted φ) (before after : List ℤ) (v c n : ℕ) (h : WrittenIs file before after (Written v c n)) where
   out : WrittenOut φ before after v c n
-  unfolding WrittenIs writeMet
-  out = wrote-clear φ before after v c n (subst (λ (q : Reading). WriteCase (afterReading q (writeChecks before)) before after (Written v c n)) reads h)
+  out = wrote-clear φ before after v c n (record { case = met (checked file (writeChecks before) reads) h })
 
   -- reading the front of the buffer back at the zeros gives the clauses
   pub reads-back : clausesOf (take n after) ≡ written φ

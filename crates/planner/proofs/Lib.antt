@@ -1,9 +1,6 @@
-pub mod Reading
 pub mod Unique
 pub mod Places
 pub mod Stating
-pub mod Cutting
-pub mod Reasons
-pub mod Writing
 pub mod Demand2
 pub mod Demand3
+pub mod Main

@@ -1,4 +1,4 @@
--- From what the reader left in the tables to the statement of a public call, once for all calls: a call's cases hang on what it meets.
+-- From what the code tests to what a call meets, and from what it meets to its statement: once for all calls.
 -- Assumes nothing.
 use mathlib.Core.Path.{_≡_, refl, sym, ap, _∙_, subst}
 use mathlib.Core.Bool.{Bool, true, false, cond, false≢true, _&&_}
@@ -18,65 +18,73 @@ use Rattle.reader.specs.Format.{Reading, refused, accepted, readPlan}
 use Rattle.reader.specs.Filling.{Answers}
 use Rattle.reader.specs.declared.ReadAnswer.{ReadAnswer}
 use Rattle.reader.specs.declared.ReadAnswer.the-variants.{Refused}
-use Rattle.planner.specs.Refusing.{Met, refusal, require, afterReading, requireLength, requireValues, requireAtom, isSet, isValue, firstNot, Names}
+use Rattle.planner.specs.Refusing.{Met, refusal, Case, By, Refuses, require, afterReading, requireLength, requireValues, requireAtom, isSet, isValue, firstNot}
 
--- the reader's refusal is what the call meets
-refused-by : (q : Reading) (y : Refusal) (es bs : List ℕ) (cs : List ℤ) → Answers q (Refused y) es bs cs → q ≡ refused (numberOf y) (valueOf y)
-refused-by (refused n v) y es bs cs h = ap (λ (x : ℕ). refused x v) (h .0) ∙ ap (refused (numberOf y)) (h .1)
-refused-by (accepted φ) y es bs cs h = absurd h
+-- a statement holds if its case does at what is met
+pub meets : {m n : Met} {R : ℕ → ℕ → Type 0} {C : PlanFile → Type 0} → m ≡ n → Case R C n → By m R C
+meets {R = R} {C = C} e h = record { case = subst (Case R C) (sym e) h }
 
-module _ (Case : Met → Type 0) (checks : PlanFile → Met) (file : List ℕ) where
-  pub when-refused : (a : ReadAnswer) (y : Refusal) (es bs : List ℕ) (cs : List ℤ) → Answers (readPlan file) a es bs cs → a ≡ Refused y
-      → Case (refusal (numberOf y) (valueOf y)) → Case (afterReading (readPlan file) checks)
-  when-refused a y es bs cs h e c =
-      let q = refused-by (readPlan file) y es bs cs (subst (λ (x : ReadAnswer). Answers (readPlan file) x es bs cs) e h) in
-      subst (λ (x : Reading). Case (afterReading x checks)) (sym q) c
+pub met : {m n : Met} {R : ℕ → ℕ → Type 0} {C : PlanFile → Type 0} → m ≡ n → By m R C → Case R C n
+met {R = R} {C = C} e b = subst (Case R C) e (b .case)
 
-  pub when-accepted : (φ : PlanFile) → readPlan file ≡ accepted φ → Case (checks φ) → Case (afterReading (readPlan file) checks)
-  when-accepted φ e c = subst (λ (x : Reading). Case (afterReading x checks)) (sym e) c
+-- a refusal that the code makes names its number and its value
+pub named : {A : Type 0} {refuse : Refusal → A} (y : Refusal) → Refuses refuse (numberOf y) (valueOf y) (refuse y)
+named y = record { why = y; names = record { number = refl; value = refl }; is = refl }
 
--- the two ways of a check, and of each check by what the code tests
-module _ (Case : Met → Type 0) (m : Met) where
-  fails-at : (b : Bool) (n v : ℕ) → b ≡ false → Case (refusal n v) → Case (require b n v m)
-  fails-at b n v e c = subst (λ (x : Bool). Case (require x n v m)) (sym e) c
+module _ (file : List ℕ) (checks : PlanFile → Met) where
+  -- an accepted file is met by the checks
+  pub checked : {φ : PlanFile} → readPlan file ≡ accepted φ → afterReading (readPlan file) checks ≡ checks φ
+  unfolding afterReading
+  checked e = ap (λ (q : Reading). afterReading q checks) e
 
-  holds-at : (b : Bool) (n v : ℕ) → b ≡ true → Case m → Case (require b n v m)
-  holds-at b n v e c = subst (λ (x : Bool). Case (require x n v m)) (sym e) c
+  pub when-accepted : {R : ℕ → ℕ → Type 0} {C : PlanFile → Type 0} {φ : PlanFile} → readPlan file ≡ accepted φ → By (checks φ) R C → By (afterReading (readPlan file) checks) R C
+  when-accepted e b = meets (checked e) (b .case)
 
-  pub length-fails : (φ : PlanFile) (a : List ℤ) → (length a ≡ φ .variables → ⊥) → Case (refusal 9 (φ .variables)) → Case (requireLength φ a m)
-  length-fails φ a h c = fails-at (eqb (length a) (φ .variables)) 9 (φ .variables) (ne-eqb (length a) (φ .variables) h) c
+  -- the reader's refusal is the call's
+  refused-by : (q : Reading) (y : Refusal) (es bs : List ℕ) (cs : List ℤ) → Answers q (Refused y) es bs cs → afterReading q checks ≡ refusal (numberOf y) (valueOf y)
+  unfolding afterReading
+  refused-by (refused n v) y es bs cs h = ap (λ (x : ℕ). refusal x v) (h .0) ∙ ap (refusal (numberOf y)) (h .1)
+  refused-by (accepted φ) y es bs cs h = absurd h
 
-  pub length-holds : (φ : PlanFile) (a : List ℤ) → length a ≡ φ .variables → Case m → Case (requireLength φ a m)
-  length-holds φ a h c = holds-at (eqb (length a) (φ .variables)) 9 (φ .variables) (eq-eqb (length a) (φ .variables) h) c
+  pub when-refused : {R : ℕ → ℕ → Type 0} {C : PlanFile → Type 0} (es bs : List ℕ) (cs : List ℤ) {a : ReadAnswer} {y : Refusal} → Answers (readPlan file) a es bs cs → a ≡ Refused y
+      → R (numberOf y) (valueOf y) → By (afterReading (readPlan file) checks) R C
+  when-refused es bs cs {a} {y} h e c = meets (refused-by (readPlan file) y es bs cs (subst (λ (x : ReadAnswer). Answers (readPlan file) x es bs cs) e h)) c
 
-  pub values-fail : (ok : ℤ → Bool) (a : List ℤ) → (firstNot ok a ≡ length a → ⊥) → Case (refusal 10 (firstNot ok a)) → Case (requireValues ok a m)
-  values-fail ok a h c = fails-at (eqb (firstNot ok a) (length a)) 10 (firstNot ok a) (ne-eqb (firstNot ok a) (length a) h) c
+-- the two ways of a check, with the value that the code returns
+module _ (φ : PlanFile) (a : List ℤ) (m : Met) {v : ℕ} (is : v ≡ φ .variables) where
+  pub length-fails : (length a ≡ v → ⊥) → requireLength φ a m ≡ refusal 9 v
+  length-fails h = ap (λ (b : Bool). require b 9 (φ .variables) m) (ne-eqb (length a) (φ .variables) (λ e. h (e ∙ sym is))) ∙ ap (refusal 9) (sym is)
 
-  pub values-hold : (ok : ℤ → Bool) (a : List ℤ) → firstNot ok a ≡ length a → Case m → Case (requireValues ok a m)
-  values-hold ok a h c = holds-at (eqb (firstNot ok a) (length a)) 10 (firstNot ok a) (eq-eqb (firstNot ok a) (length a) h) c
+  pub length-holds : length a ≡ v → requireLength φ a m ≡ m
+  length-holds h = ap (λ (b : Bool). require b 9 (φ .variables) m) (eq-eqb (length a) (φ .variables) (h ∙ is))
 
-  pub atom-zero : (φ : PlanFile) (k : ℕ) → k ≡ 0 → Case (refusal 11 (length (φ .atoms))) → Case (requireAtom φ k m)
-  atom-zero φ k h c = fails-at (leb 1 k && leb k (length (φ .atoms))) 11 (length (φ .atoms)) (ap (λ (x : ℕ). leb 1 x && leb x (length (φ .atoms))) h) c
+module _ (ok : ℤ → Bool) (a : List ℤ) (m : Met) {k : ℕ} (is : k ≡ firstNot ok a) where
+  pub values-fail : (k ≡ length a → ⊥) → requireValues ok a m ≡ refusal 10 k
+  values-fail h = ap (λ (b : Bool). require b 10 (firstNot ok a) m) (ne-eqb (firstNot ok a) (length a) (λ e. h (is ∙ e))) ∙ ap (refusal 10) (sym is)
 
-  pub atom-beyond : (φ : PlanFile) (k : ℕ) → length (φ .atoms) < k → Case (refusal 11 (length (φ .atoms))) → Case (requireAtom φ k m)
-  atom-beyond φ k h c =
-      fails-at (leb 1 k && leb k (length (φ .atoms))) 11 (length (φ .atoms))
-      (ap (λ (x : Bool). x && leb k (length (φ .atoms))) (le-leb 1 k (omega arith)) ∙ lt-leb k (length (φ .atoms)) h) c
+  pub values-hold : k ≡ length a → requireValues ok a m ≡ m
+  values-hold h = ap (λ (b : Bool). require b 10 (firstNot ok a) m) (eq-eqb (firstNot ok a) (length a) (sym is ∙ h))
 
-  pub atom-holds : (φ : PlanFile) (k : ℕ) → 1 ≤ k → k ≤ length (φ .atoms) → Case m → Case (requireAtom φ k m)
-  atom-holds φ k l h c =
-      holds-at (leb 1 k && leb k (length (φ .atoms))) 11 (length (φ .atoms))
-      (ap (λ (x : Bool). x && leb k (length (φ .atoms))) (le-leb 1 k l) ∙ le-leb k (length (φ .atoms)) h) c
+module _ (φ : PlanFile) (k : ℕ) (m : Met) {n : ℕ} (is : length (φ .atoms) ≡ n) where
+  abbrev tests : Bool → Met
+  tests b = require b 11 (length (φ .atoms)) m
 
-  pub room-fails : (n k : ℕ) → k < n → Case (refusal 12 n) → Case (require (leb n k) 12 n m)
-  room-fails n k h c = fails-at (leb n k) 12 n (lt-leb n k h) c
+  pub atom-zero : k ≡ 0 → requireAtom φ k m ≡ refusal 11 n
+  atom-zero h = ap (λ (x : ℕ). tests (leb 1 x && leb x (length (φ .atoms)))) h ∙ ap (refusal 11) is
 
-  pub room-holds : (n k : ℕ) → n ≤ k → Case m → Case (require (leb n k) 12 n m)
-  room-holds n k h c = holds-at (leb n k) 12 n (le-leb n k h) c
+  pub atom-beyond : n < k → requireAtom φ k m ≡ refusal 11 n
+  atom-beyond h =
+      ap (λ (x : Bool). tests (x && leb k (length (φ .atoms)))) (le-leb 1 k (omega arith)) ∙ ap tests (lt-leb k (length (φ .atoms)) (omega (arith, is))) ∙ ap (refusal 11) is
 
--- a refusal that the code makes names the number and the value
-pub names : (n v : ℕ) (y : Refusal) → n ≡ numberOf y → v ≡ valueOf y → Names n v y
-names n v y e f = record { number = e; value = f }
+  pub atom-holds : 1 ≤ k → k ≤ n → requireAtom φ k m ≡ m
+  atom-holds l h = ap (λ (x : Bool). tests (x && leb k (length (φ .atoms)))) (le-leb 1 k l) ∙ ap tests (le-leb k (length (φ .atoms)) (omega (arith, is)))
+
+module _ (m : Met) (n k : ℕ) where
+  pub room-fails : k < n → require (leb n k) 12 n m ≡ refusal 12 n
+  room-fails h = ap (λ (b : Bool). require b 12 n m) (lt-leb n k h)
+
+  pub room-holds : n ≤ k → require (leb n k) 12 n m ≡ m
+  room-holds h = ap (λ (b : Bool). require b 12 n m) (le-leb n k h)
 
 -- values that are all taken
 module _ (ok : ℤ → Bool) (P : ℤ → Type 0) (is : (x : ℤ) → ok x ≡ true → P x) where
@@ -105,8 +113,8 @@ is-value (pos (suc (suc n))) e = absurd (false≢true e)
 is-value (negsuc zero) e = inr (inl refl)
 is-value (negsuc (suc n)) e = absurd (false≢true e)
 
-pub full-of : (n : ℕ) (a : List ℤ) → length a ≡ n → firstNot isSet a ≡ length a → Full n a
-full-of n a e f = record { long = e; each = λ i h. all-taken isSet _ is-set a f i (omega arith) }
+pub full-of : {n k : ℕ} (a : List ℤ) → length a ≡ n → k ≡ firstNot isSet a → k ≡ length a → Full n a
+full-of a e f g = record { long = e; each = λ i h. all-taken isSet _ is-set a (sym f ∙ g) i (omega arith) }
 
-pub assigned-of : (n : ℕ) (a : List ℤ) → length a ≡ n → firstNot isValue a ≡ length a → Assigned n a
-assigned-of n a e f = record { long = e; each = λ i h. all-taken isValue _ is-value a f i (omega arith) }
+pub assigned-of : {n k : ℕ} (a : List ℤ) → length a ≡ n → k ≡ firstNot isValue a → k ≡ length a → Assigned n a
+assigned-of a e f g = record { long = e; each = λ i h. all-taken isValue _ is-value a (sym f ∙ g) i (omega arith) }

@@ -1,210 +1,229 @@
--- No second answer, and no second contents of a lent buffer, fits the statement of a public call.
+-- No second answer, and no second contents of a lent buffer, fits the statement of a public call. One law over all calls: where nothing is
+-- refused, the answer and the buffer are what an outcome tells, and there is one outcome.
 -- Assumes nothing.
 use mathlib.Core.Path.{_≡_, refl, sym, subst, _∙_, ap}
-use mathlib.Core.Logic.{_⊎_, inl, inr}
+use mathlib.Core.Bool.{Bool, cond}
+use mathlib.Core.Logic.{inl, inr}
 use mathlib.Core.List.{List, _++_}
 use Prim.Native.Nat.{ℕ, _-_, _<_}
-use native.Mathlib.Omega.{arith}
 use lib.ListN.{length, drop}
 use lib.IntN.{ℤ}
-use Rattle.plan.specs.Meaning.{PlanFile, Atom, atom, trueIn}
+use lib.Dec.{leb}
+use borrow.Author.Tests.{le-leb, lt-leb}
+use Rattle.plan.specs.Meaning.{PlanFile, atom, trueIn}
+use Rattle.plan.specs.Buffers.{Kept}
 use Rattle.plan.specs.Judging as judging
-use Rattle.plan.specs.Reason.{holds, fails, neither, ReasonIs}
-use Rattle.plan.specs.Search.{found, decided, Answer, Searched}
+use Rattle.plan.specs.Reason.{Reason, holds, fails, neither, ReasonIs}
+use Rattle.plan.specs.Search.{Outcome, nothing, found, CloseIs, Answer, decided, undecided, Searched}
+use Rattle.plan.specs.Written.{flat, written, lastVariable}
+use Rattle.plan.specs.declared.Plan.{Plan}
+use Rattle.plan.specs.declared.Refusal.{Refusal}
+use Rattle.plan.specs.declared.Refusal.the-variants.{NoRoom}
+use Rattle.plan.proofs.Refusals.{one-refusal}
 use Rattle.plan.proofs.Judging.{judged-unique}
 use Rattle.plan.proofs.Closing.{not-both}
 use Rattle.plan.proofs.Search.{closes-unique}
 use Rattle.plan.proofs.Budget.{searched-unique}
-use Rattle.plan.proofs.Reason.{reason-unique}
-use Rattle.planner.specs.declared.JudgeAnswer as judging-answer
+use Rattle.plan.proofs.Reason as reasons
+use Rattle.reader.specs.declared.ReadAnswer.{ReadAnswer}
+use Rattle.reader.specs.declared.ReadAnswer.the-variants as read
+use Rattle.planner.specs.declared.JudgeAnswer.{JudgeAnswer}
 use Rattle.planner.specs.declared.JudgeAnswer.the-variants as judge
-use Rattle.planner.specs.declared.CloseAnswer as closing-answer
+use Rattle.planner.specs.declared.CloseAnswer.{CloseAnswer}
 use Rattle.planner.specs.declared.CloseAnswer.the-variants as close
-use Rattle.planner.specs.declared.ReasonAnswer as reason-answer
+use Rattle.planner.specs.declared.ReasonAnswer.{ReasonAnswer}
 use Rattle.planner.specs.declared.ReasonAnswer.the-variants as reason
-use Rattle.planner.specs.declared.SearchAnswer as search-answer
+use Rattle.planner.specs.declared.SearchAnswer.{SearchAnswer}
 use Rattle.planner.specs.declared.SearchAnswer.the-variants as search
-use Rattle.planner.specs.declared.WriteAnswer as write-answer
+use Rattle.planner.specs.declared.WriteAnswer.{WriteAnswer}
 use Rattle.planner.specs.declared.WriteAnswer.the-variants as write
-use Rattle.planner.specs.Refusing.{Met, refusal, clear, Names}
-use Rattle.planner.specs.Judge.{judgeMet, JudgeCase, JudgeIs}
-use Rattle.planner.specs.Close.{closeMet, CloseCase, ClosedIs}
-use Rattle.planner.specs.Explain.{reasonMet, ReasonCase, Given, ExplainedIs}
-use Rattle.planner.specs.Find.{allOpen, searchMet, SearchCase, SearchedIs}
-use Rattle.planner.specs.Write.{writeMet, WriteCase, WrittenIs}
-use Rattle.planner.proofs.Reading.{one-name}
+use Rattle.planner.specs.Refusing.{Met, refusal, clear, Names, Refuses, Case, By, KeepingBy}
+use Rattle.planner.specs.Read.{Counts, ReadCase, ReadIs}
+use Rattle.planner.specs.Judge.{JudgeCase, JudgeIs}
+use Rattle.planner.specs.Close.{CloseCase, ClosedIs}
+use Rattle.planner.specs.Reason.{ReasonCase, Given, ReasonedIs}
+use Rattle.planner.specs.Search.{allOpen, SearchCase, SearchedIs}
+use Rattle.planner.specs.WriteClauses.{WriteCase, WrittenIs}
+
+-- one refusal has a number and a value
+one-name : (n v : ℕ) (x y : Refusal) → Names n v x → Names n v y → x ≡ y
+one-name n v x y h k = one-refusal x y (sym (h .number) ∙ k .number) (sym (h .value) ∙ k .value)
+
+one-refuses : {A : Type 0} {refused : Refusal → A} {n v : ℕ} {r s : A} → Refuses refused n v r → Refuses refused n v s → r ≡ s
+one-refuses {refused = refused} {n = n} {v = v} h k = h .is ∙ ap refused (one-name n v (h .why) (k .why) (h .names) (k .names)) ∙ sym (k .is)
+
+-- no second answer with its buffer fits
+abbrev pub OneLeft : {A : Type 0} → (List ℤ → A → Type 0) → Type 0
+OneLeft {A} Is = (after after′ : List ℤ) (r s : A) → Is after r → Is after′ s → (r ≡ s) × (after ≡ after′)
+
+-- x is what an outcome tells that Leads
+pub record Told {O X : Type 0} (Leads : O → Type 0) (tell : O → X) (x : X) : Type 0 where
+  pub of : O
+  pub is : Leads of
+  pub told : x ≡ tell of
+
+module _ {A O : Type 0} (refused : Refusal → A) (Leads : PlanFile → O → Type 0) (one : (φ : PlanFile) (o p : O) → Leads φ o → Leads φ p → o ≡ p) where
+  one-told : {X : Type 0} (φ : PlanFile) (tell : O → X) {x y : X} → Told (Leads φ) tell x → Told (Leads φ) tell y → x ≡ y
+  one-told φ tell h k = h .told ∙ ap tell (one φ (h .of) (k .of) (h .is) (k .is)) ∙ sym (k .told)
+
+  -- a call without a lent buffer
+  unique : (tell : O → A) (C : A → PlanFile → Type 0) → ((φ : PlanFile) (r : A) → C r φ → Told (Leads φ) tell r) → {m : Met} (r s : A)
+      → By m (λ n v. Refuses refused n v r) (C r) → By m (λ n v. Refuses refused n v s) (C s) → r ≡ s
+  unique tell C led {m} r s h k = go m (h .case) (k .case)
+    where
+      go : (m : Met) → Case (λ n v. Refuses refused n v r) (C r) m → Case (λ n v. Refuses refused n v s) (C s) m → r ≡ s
+      go (refusal n v) x y = one-refuses x y
+      go (clear φ) x y = one-told φ tell (led φ r x) (led φ s y)
+
+  -- a call with one
+  unique-left : (tell : O → A × List ℤ) (before : List ℤ) (C : A → List ℤ → PlanFile → Type 0) → ((φ : PlanFile) (r : A) (after : List ℤ) → C r after φ → Told (Leads φ) tell (r, after)) → {m : Met}
+      → OneLeft (λ after r. KeepingBy m refused (C r after) before after r)
+  unique-left tell before C led {m} after after′ r s h k = go m (h .case) (k .case)
+    where
+      go : (m : Met) → Case (λ n v. Refuses refused n v r × Kept before after) (C r after) m → Case (λ n v. Refuses refused n v s × Kept before after′) (C s after′) m
+          → (r ≡ s) × (after ≡ after′)
+      go (refusal n v) x y = (one-refuses (x .0) (y .0), x .1 ∙ sym (y .1))
+      go (clear φ) x y = let e = one-told φ tell (led φ r after x) (led φ s after′ y) in (ap (λ z. z .0) e, ap (λ z. z .1) e)
+
+kept : {A : Type 0} {r : A} {before after : List ℤ} → after ≡ before → _≡_ {A = A × List ℤ} (r, after) (r, before)
+kept {r = r} e = ap (λ z. (r, z)) e
+
+-- ---- read
+
+one-count : (φ : PlanFile) (p q : Plan) → Counts φ p → Counts φ q → p ≡ q
+one-count φ p q x y =
+    let a : p .nodes ≡ q .nodes = sym (x .nodes) ∙ y .nodes in
+    let b : p .variables ≡ q .variables = sym (x .variables) ∙ y .variables in
+    let d : p .edges ≡ q .edges = sym (x .edges) ∙ y .edges in
+    let e : p .atoms ≡ q .atoms = sym (x .atoms) ∙ y .atoms in
+    let f : p .clauses ≡ q .clauses = sym (x .clauses) ∙ y .clauses in
+    let g : p .literals ≡ q .literals = sym (x .literals) ∙ y .literals in
+    λ i. record { nodes = a i; variables = b i; edges = d i; atoms = e i; clauses = f i; literals = g i }
+
+read-led : (φ : PlanFile) (r : ReadAnswer) → ReadCase φ r → Told (Counts φ) read.Accepted r
+read-led φ (read.Refused y) h = absurd h
+read-led φ (read.Accepted p) h = record { of = p; is = h; told = refl }
+
+pub read-unique : (file : List ℕ) (r s : ReadAnswer) → ReadIs file r → ReadIs file s → r ≡ s
+read-unique file r s h k = unique read.Refused Counts one-count read.Accepted (λ r φ. ReadCase φ r) read-led r s h k
 
 -- ---- judge
 
-one-judge : (m : Met) (a : List ℤ) (r s : judging-answer.JudgeAnswer) → JudgeCase m a r → JudgeCase m a s → r ≡ s
-one-judge (refusal n v) a (judge.Refused x) (judge.Refused y) h k = ap judge.Refused (one-name n v x y h k)
-one-judge (refusal n v) a (judge.Refused x) judge.Plan h k = absurd k
-one-judge (refusal n v) a (judge.Refused x) (judge.Clause j) h k = absurd k
-one-judge (refusal n v) a (judge.Refused x) (judge.Atom j) h k = absurd k
-one-judge (refusal n v) a judge.Plan s h k = absurd h
-one-judge (refusal n v) a (judge.Clause i) s h k = absurd h
-one-judge (refusal n v) a (judge.Atom i) s h k = absurd h
-one-judge (clear φ) a (judge.Refused x) s h k = absurd h
-one-judge (clear φ) a judge.Plan (judge.Refused y) h k = absurd k
-one-judge (clear φ) a judge.Plan judge.Plan h k = refl
-one-judge (clear φ) a judge.Plan (judge.Clause j) h k = let e = judged-unique φ a judging.plan (judging.no-true j) h k in let z : _≡_ {A = ℕ} 0 1 = cc in absurd (omega arith)
-one-judge (clear φ) a judge.Plan (judge.Atom j) h k = let e = judged-unique φ a judging.plan (judging.wrong j) h k in let z : _≡_ {A = ℕ} 0 1 = cc in absurd (omega arith)
-one-judge (clear φ) a (judge.Clause i) (judge.Refused y) h k = absurd k
-one-judge (clear φ) a (judge.Clause i) judge.Plan h k = let e = judged-unique φ a (judging.no-true i) judging.plan h k in let z : _≡_ {A = ℕ} 0 1 = cc in absurd (omega arith)
-one-judge (clear φ) a (judge.Clause i) (judge.Clause j) h k = let e = judged-unique φ a (judging.no-true i) (judging.no-true j) h k in let z : i ≡ j = cc in ap judge.Clause z
-one-judge (clear φ) a (judge.Clause i) (judge.Atom j) h k = let e = judged-unique φ a (judging.no-true i) (judging.wrong j) h k in let z : _≡_ {A = ℕ} 0 1 = cc in absurd (omega arith)
-one-judge (clear φ) a (judge.Atom i) (judge.Refused y) h k = absurd k
-one-judge (clear φ) a (judge.Atom i) judge.Plan h k = let e = judged-unique φ a (judging.wrong i) judging.plan h k in let z : _≡_ {A = ℕ} 0 1 = cc in absurd (omega arith)
-one-judge (clear φ) a (judge.Atom i) (judge.Clause j) h k = let e = judged-unique φ a (judging.wrong i) (judging.no-true j) h k in let z : _≡_ {A = ℕ} 0 1 = cc in absurd (omega arith)
-one-judge (clear φ) a (judge.Atom i) (judge.Atom j) h k = let e = judged-unique φ a (judging.wrong i) (judging.wrong j) h k in let z : i ≡ j = cc in ap judge.Atom z
+abbrev toldJudge : judging.Verdict → JudgeAnswer
+toldJudge judging.plan = judge.Plan
+toldJudge (judging.no-true n) = judge.Clause n
+toldJudge (judging.wrong n) = judge.Atom n
 
-pub judge-unique : (file : List ℕ) (a : List ℤ) (r s : judging-answer.JudgeAnswer) → JudgeIs file a r → JudgeIs file a s → r ≡ s
-unfolding JudgeIs
-judge-unique file a r s h k = one-judge (judgeMet file a) a r s h k
+module _ (a : List ℤ) where
+  judge-led : (φ : PlanFile) (r : JudgeAnswer) → JudgeCase φ a r → Told (judging.Judged φ a) toldJudge r
+  judge-led φ (judge.Refused y) h = absurd h
+  judge-led φ judge.Plan h = record { of = judging.plan; is = h; told = refl }
+  judge-led φ (judge.Clause k) h = record { of = judging.no-true k; is = h; told = refl }
+  judge-led φ (judge.Atom k) h = record { of = judging.wrong k; is = h; told = refl }
+
+pub judge-unique : (file : List ℕ) (a : List ℤ) (r s : JudgeAnswer) → JudgeIs file a r → JudgeIs file a s → r ≡ s
+judge-unique file a r s h k = unique judge.Refused (λ φ. judging.Judged φ a) (λ φ. judged-unique φ a) toldJudge (λ r φ. JudgeCase φ a r) (judge-led a) r s h k
 
 -- ---- close
 
-one-close : (m : Met) (given before after after′ : List ℤ) (r s : closing-answer.CloseAnswer) → CloseCase m given before after r → CloseCase m given before after′ s
-    → (r ≡ s) × (after ≡ after′)
-one-close (refusal n v) given before after after′ (close.Refused x) (close.Refused y) h k = (ap close.Refused (one-name n v x y (h .0) (k .0)), h .1 ∙ sym (k .1))
-one-close (refusal n v) given before after after′ (close.Refused x) close.Closed h k = absurd k
-one-close (refusal n v) given before after after′ (close.Refused x) close.Clash h k = absurd k
-one-close (refusal n v) given before after after′ close.Closed s h k = absurd h
-one-close (refusal n v) given before after after′ close.Clash s h k = absurd h
-one-close (clear φ) given before after after′ (close.Refused x) s h k = absurd h
-one-close (clear φ) given before after after′ close.Closed (close.Refused y) h k = absurd k
-one-close (clear φ) given before after after′ close.Closed close.Closed h k = (refl, closes-unique φ given given after after′ refl h k)
-one-close (clear φ) given before after after′ close.Closed close.Clash h k = absurd (not-both φ (trueIn given) (trueIn after) (h .closed) (k .0))
-one-close (clear φ) given before after after′ close.Clash (close.Refused y) h k = absurd k
-one-close (clear φ) given before after after′ close.Clash close.Closed h k = absurd (not-both φ (trueIn given) (trueIn after′) (k .closed) (h .0))
-one-close (clear φ) given before after after′ close.Clash close.Clash h k = (refl, h .1 ∙ sym (k .1))
+module _ (given before : List ℤ) where
+  abbrev toldClose : Outcome → CloseAnswer × List ℤ
+  toldClose nothing = (close.Clash, before)
+  toldClose (found p) = (close.Closed, p)
 
-pub close-unique : (file : List ℕ) (given before after after′ : List ℤ) (r s : closing-answer.CloseAnswer) → ClosedIs file given before after r → ClosedIs file given before after′ s
-    → (r ≡ s) × (after ≡ after′)
-unfolding ClosedIs
-close-unique file given before after after′ r s h k = one-close (closeMet file given before) given before after after′ r s h k
+  one-close : (φ : PlanFile) (o p : Outcome) → CloseIs φ given o → CloseIs φ given p → o ≡ p
+  one-close φ nothing nothing h k = refl
+  one-close φ nothing (found p) h k = absurd (not-both φ (trueIn given) (trueIn p) (k .closed) h)
+  one-close φ (found o) nothing h k = absurd (not-both φ (trueIn given) (trueIn o) (h .closed) k)
+  one-close φ (found o) (found p) h k = ap found (closes-unique φ given given o p refl h k)
 
--- ---- search
+  close-led : (φ : PlanFile) (r : CloseAnswer) (after : List ℤ) → CloseCase φ given before after r → Told (CloseIs φ given) toldClose (r, after)
+  close-led φ (close.Refused y) after h = absurd h
+  close-led φ close.Closed after h = record { of = found after; is = h; told = refl }
+  close-led φ close.Clash after h = record { of = nothing; is = h .0; told = kept (h .1) }
 
--- an outcome and a count stand in an answer
-one-found : {p q : List ℤ} → decided (found p) ≡ decided (found q) → p ≡ q
-one-found {p} {q} e = cc
-
-module _ (φ : PlanFile) (budget : ℕ) where
-  apart : {o o′ : Answer} {b b′ : ℕ} → Searched φ (allOpen φ) budget o b → Searched φ (allOpen φ) budget o′ b′ → (o ≡ o′ → ⊥) → ⊥
-  apart h k n = n (searched-unique φ h k .0)
-
-one-search : (m : Met) (budget : ℕ) (before after after′ : List ℤ) (r s : search-answer.SearchAnswer) → SearchCase m budget before after r → SearchCase m budget before after′ s
-    → (r ≡ s) × (after ≡ after′)
-one-search (refusal n v) budget before after after′ (search.Refused x) (search.Refused y) h k = (ap search.Refused (one-name n v x y (h .0) (k .0)), h .1 ∙ sym (k .1))
-one-search (refusal n v) budget before after after′ (search.Refused x) (search.Plan c) h k = absurd k
-one-search (refusal n v) budget before after after′ (search.Refused x) (search.Impossible c) h k = absurd k
-one-search (refusal n v) budget before after after′ (search.Refused x) (search.Undecided c) h k = absurd k
-one-search (refusal n v) budget before after after′ (search.Plan b) s h k = absurd h
-one-search (refusal n v) budget before after after′ (search.Impossible b) s h k = absurd h
-one-search (refusal n v) budget before after after′ (search.Undecided b) s h k = absurd h
-one-search (clear φ) budget before after after′ (search.Refused x) s h k = absurd h
-one-search (clear φ) budget before after after′ (search.Plan b) (search.Refused y) h k = absurd k
-one-search (clear φ) budget before after after′ (search.Plan b) (search.Plan c) h k = let q = searched-unique φ h k in (ap search.Plan (q .1), one-found (q .0))
-one-search (clear φ) budget before after after′ (search.Plan b) (search.Impossible c) h k = absurd (apart φ budget h (k .0) (λ e. let z : _≡_ {A = ℕ} 0 1 = cc in omega arith))
-one-search (clear φ) budget before after after′ (search.Plan b) (search.Undecided c) h k = absurd (apart φ budget h (k .0) (λ e. let z : _≡_ {A = ℕ} 0 1 = cc in omega arith))
-one-search (clear φ) budget before after after′ (search.Impossible b) (search.Refused y) h k = absurd k
-one-search (clear φ) budget before after after′ (search.Impossible b) (search.Plan c) h k = absurd (apart φ budget (h .0) k (λ e. let z : _≡_ {A = ℕ} 0 1 = cc in omega arith))
-one-search (clear φ) budget before after after′ (search.Impossible b) (search.Impossible c) h k = (ap search.Impossible (searched-unique φ (h .0) (k .0) .1), h .1 ∙ sym (k .1))
-one-search (clear φ) budget before after after′ (search.Impossible b) (search.Undecided c) h k = absurd (apart φ budget (h .0) (k .0) (λ e. let z : _≡_ {A = ℕ} 0 1 = cc in omega arith))
-one-search (clear φ) budget before after after′ (search.Undecided b) (search.Refused y) h k = absurd k
-one-search (clear φ) budget before after after′ (search.Undecided b) (search.Plan c) h k = absurd (apart φ budget (h .0) k (λ e. let z : _≡_ {A = ℕ} 0 1 = cc in omega arith))
-one-search (clear φ) budget before after after′ (search.Undecided b) (search.Impossible c) h k = absurd (apart φ budget (h .0) (k .0) (λ e. let z : _≡_ {A = ℕ} 0 1 = cc in omega arith))
-one-search (clear φ) budget before after after′ (search.Undecided b) (search.Undecided c) h k = (ap search.Undecided (searched-unique φ (h .0) (k .0) .1), h .1 ∙ sym (k .1))
-
-pub search-unique : (file : List ℕ) (budget : ℕ) (before after after′ : List ℤ) (r s : search-answer.SearchAnswer)
-    → SearchedIs file budget before after r → SearchedIs file budget before after′ s → (r ≡ s) × (after ≡ after′)
-unfolding SearchedIs
-search-unique file budget before after after′ r s h k = one-search (searchMet file before) budget before after after′ r s h k
-
--- ---- write_clauses
-
-one-write : (m : Met) (before after after′ : List ℤ) (r s : write-answer.WriteAnswer) → WriteCase m before after r → WriteCase m before after′ s → (r ≡ s) × (after ≡ after′)
-one-write (refusal n v) before after after′ (write.Refused x) (write.Refused y) h k = (ap write.Refused (one-name n v x y (h .0) (k .0)), h .1 ∙ sym (k .1))
-one-write (refusal n v) before after after′ (write.Refused x) (write.Written a b c) h k = absurd k
-one-write (refusal n v) before after after′ (write.Written a b c) s h k = absurd h
-one-write (clear φ) before after after′ (write.Refused x) s h k = absurd h
-one-write (clear φ) before after after′ (write.Written a b c) (write.Refused y) h k = absurd k
-one-write (clear φ) before after after′ (write.Written a b c) (write.Written d e f) h k =
-    let p : a ≡ d = h .last ∙ sym (k .last) in
-    let q : b ≡ e = h .count ∙ sym (k .count) in
-    let r : c ≡ f = h .length-is ∙ sym (k .length-is) in
-    (cc, h .wrote ∙ sym (k .wrote))
-
-pub write-unique : (file : List ℕ) (before after after′ : List ℤ) (r s : write-answer.WriteAnswer) → WrittenIs file before after r → WrittenIs file before after′ s
-    → (r ≡ s) × (after ≡ after′)
-unfolding WrittenIs
-write-unique file before after after′ r s h k = one-write (writeMet file before) before after after′ r s h k
+pub close-unique : (file : List ℕ) (given before : List ℤ) → OneLeft (ClosedIs file given before)
+close-unique file given before =
+    unique-left close.Refused (λ φ. CloseIs φ given) (one-close given before) (toldClose given before) before (λ r after φ. CloseCase φ given before after r) (close-led given before)
 
 -- ---- reason
 
-module _ (φ : PlanFile) (a : List ℤ) (A : Atom) where
-  -- a clause that holds or fails is one
-  one-clause : (r s : List ℤ) → ReasonIs φ a A (holds r) ⊎ ReasonIs φ a A (fails r) → ReasonIs φ a A (holds s) ⊎ ReasonIs φ a A (fails s) → r ≡ s
-  one-clause r s (inl h) (inl k) = let e = reason-unique φ a A (holds r) (holds s) h k in cc
-  one-clause r s (inl h) (inr k) = let e = reason-unique φ a A (holds r) (fails s) h k in let z : _≡_ {A = ℕ} 0 1 = cc in absurd (omega arith)
-  one-clause r s (inr h) (inl k) = let e = reason-unique φ a A (fails r) (holds s) h k in let z : _≡_ {A = ℕ} 0 1 = cc in absurd (omega arith)
-  one-clause r s (inr h) (inr k) = let e = reason-unique φ a A (fails r) (fails s) h k in cc
+module _ (a : List ℤ) (k : ℕ) (before : List ℤ) where
+  abbrev Gives : PlanFile → Reason → Type 0
+  Gives φ o = ReasonIs φ a (atom (φ .atoms) (k - 1)) o
 
-  never-open : (r : List ℤ) → ReasonIs φ a A (holds r) ⊎ ReasonIs φ a A (fails r) → ReasonIs φ a A neither → ⊥
-  never-open r (inl h) k = let e = reason-unique φ a A (holds r) neither h k in let z : _≡_ {A = ℕ} 0 1 = cc in omega arith
-  never-open r (inr h) k = let e = reason-unique φ a A (fails r) neither h k in let z : _≡_ {A = ℕ} 0 1 = cc in omega arith
+  -- a clause is written where there is room
+  abbrev toldClause : (ℕ → ReasonAnswer) → List ℤ → Bool → ReasonAnswer × List ℤ
+  toldClause make r b = cond b (make (length r), r ++ drop (length r) before) (reason.Refused (NoRoom (length r)), before)
 
-  -- it is written or there is no room
-  room : (r s before after : List ℤ) (n : ℕ) → ReasonIs φ a A (holds r) ⊎ ReasonIs φ a A (fails r) → Given r before after n
-      → ReasonIs φ a A (holds s) ⊎ ReasonIs φ a A (fails s) → length before < length s → ⊥
-  room r s before after n h g k l = omega (arith, g .fits, ap length (one-clause r s h k))
+  abbrev toldReason : Reason → ReasonAnswer × List ℤ
+  toldReason (holds r) = toldClause reason.Holds r (leb (length r) (length before))
+  toldReason (fails r) = toldClause reason.Fails r (leb (length r) (length before))
+  toldReason neither = (reason.Open, before)
 
-  one-given : (r s before after after′ : List ℤ) (n m : ℕ) → r ≡ s → Given r before after n → Given s before after′ m → (n ≡ m) × (after ≡ after′)
-  one-given r s before after after′ n m e g d =
-      (g .counted ∙ ap length e ∙ sym (d .counted), g .wrote ∙ ap (λ (z : List ℤ). z ++ drop (length z) before) e ∙ sym (d .wrote))
+  module _ (make : ℕ → ReasonAnswer) (r after : List ℤ) where
+    written-out : (n : ℕ) → Given r before after n → _≡_ {A = ReasonAnswer × List ℤ} (make n, after) (toldClause make r (leb (length r) (length before)))
+    written-out n g =
+        let e = g .counted in
+        let f = g .wrote in
+        (λ i. (make (e i), f i)) ∙ ap (toldClause make r) (sym (le-leb (length r) (length before) (g .fits)))
 
-one-reason : (m : Met) (a : List ℤ) (i : ℕ) (before after after′ : List ℤ) (r s : reason-answer.ReasonAnswer) → ReasonCase m a i before after r → ReasonCase m a i before after′ s
-    → (r ≡ s) × (after ≡ after′)
-one-reason (refusal n v) a i before after after′ (reason.Refused x) (reason.Refused y) h k = (ap reason.Refused (one-name n v x y (h .0) (k .0)), h .1 ∙ sym (k .1))
-one-reason (refusal n v) a i before after after′ (reason.Refused x) (reason.Holds c) h k = absurd k
-one-reason (refusal n v) a i before after after′ (reason.Refused x) (reason.Fails c) h k = absurd k
-one-reason (refusal n v) a i before after after′ (reason.Refused x) reason.Open h k = absurd k
-one-reason (refusal n v) a i before after after′ (reason.Holds b) s h k = absurd h
-one-reason (refusal n v) a i before after after′ (reason.Fails b) s h k = absurd h
-one-reason (refusal n v) a i before after after′ reason.Open s h k = absurd h
-one-reason (clear φ) a i before after after′ (reason.Refused x) (reason.Refused y) h k =
-    let e = one-clause φ a (atom (φ .atoms) (i - 1)) (h .0) (k .0) (h .1) (k .1) in
-    (ap reason.Refused (one-name 12 (length (h .0)) x y (h .3) (subst (λ (z : List ℤ). Names 12 (length z) y) (sym e) (k .3))), h .4 ∙ sym (k .4))
-one-reason (clear φ) a i before after after′ (reason.Refused x) (reason.Holds c) h k =
-    absurd (room φ a (atom (φ .atoms) (i - 1)) (k .0) (h .0) before after′ c (inl (k .1)) (k .2) (h .1) (h .2))
-one-reason (clear φ) a i before after after′ (reason.Refused x) (reason.Fails c) h k =
-    absurd (room φ a (atom (φ .atoms) (i - 1)) (k .0) (h .0) before after′ c (inr (k .1)) (k .2) (h .1) (h .2))
-one-reason (clear φ) a i before after after′ (reason.Refused x) reason.Open h k = absurd (never-open φ a (atom (φ .atoms) (i - 1)) (h .0) (h .1) (k .0))
-one-reason (clear φ) a i before after after′ (reason.Holds b) (reason.Refused y) h k =
-    absurd (room φ a (atom (φ .atoms) (i - 1)) (h .0) (k .0) before after b (inl (h .1)) (h .2) (k .1) (k .2))
-one-reason (clear φ) a i before after after′ (reason.Holds b) (reason.Holds c) h k =
-    let A = atom (φ .atoms) (i - 1) in
-    let q = one-given φ a A (h .0) (k .0) before after after′ b c (one-clause φ a A (h .0) (k .0) (inl (h .1)) (inl (k .1))) (h .2) (k .2) in
-    (ap reason.Holds (q .0), q .1)
-one-reason (clear φ) a i before after after′ (reason.Holds b) (reason.Fails c) h k =
-    let e = reason-unique φ a (atom (φ .atoms) (i - 1)) (holds (h .0)) (fails (k .0)) (h .1) (k .1) in let z : _≡_ {A = ℕ} 0 1 = cc in absurd (omega arith)
-one-reason (clear φ) a i before after after′ (reason.Holds b) reason.Open h k = absurd (never-open φ a (atom (φ .atoms) (i - 1)) (h .0) (inl (h .1)) (k .0))
-one-reason (clear φ) a i before after after′ (reason.Fails b) (reason.Refused y) h k =
-    absurd (room φ a (atom (φ .atoms) (i - 1)) (h .0) (k .0) before after b (inr (h .1)) (h .2) (k .1) (k .2))
-one-reason (clear φ) a i before after after′ (reason.Fails b) (reason.Holds c) h k =
-    let e = reason-unique φ a (atom (φ .atoms) (i - 1)) (fails (h .0)) (holds (k .0)) (h .1) (k .1) in let z : _≡_ {A = ℕ} 0 1 = cc in absurd (omega arith)
-one-reason (clear φ) a i before after after′ (reason.Fails b) (reason.Fails c) h k =
-    let A = atom (φ .atoms) (i - 1) in
-    let q = one-given φ a A (h .0) (k .0) before after after′ b c (one-clause φ a A (h .0) (k .0) (inr (h .1)) (inr (k .1))) (h .2) (k .2) in
-    (ap reason.Fails (q .0), q .1)
-one-reason (clear φ) a i before after after′ (reason.Fails b) reason.Open h k = absurd (never-open φ a (atom (φ .atoms) (i - 1)) (h .0) (inr (h .1)) (k .0))
-one-reason (clear φ) a i before after after′ reason.Open (reason.Refused y) h k = absurd (never-open φ a (atom (φ .atoms) (i - 1)) (k .0) (k .1) (h .0))
-one-reason (clear φ) a i before after after′ reason.Open (reason.Holds c) h k = absurd (never-open φ a (atom (φ .atoms) (i - 1)) (k .0) (inl (k .1)) (h .0))
-one-reason (clear φ) a i before after after′ reason.Open (reason.Fails c) h k = absurd (never-open φ a (atom (φ .atoms) (i - 1)) (k .0) (inr (k .1)) (h .0))
-one-reason (clear φ) a i before after after′ reason.Open reason.Open h k = (refl, h .1 ∙ sym (k .1))
+    no-room : (y : Refusal) → length before < length r → Names 12 (length r) y → after ≡ before
+        → _≡_ {A = ReasonAnswer × List ℤ} (reason.Refused y, after) (toldClause make r (leb (length r) (length before)))
+    no-room y l n f =
+        let e = one-name 12 (length r) y (NoRoom (length r)) n (record { number = refl; value = refl }) in
+        (λ i. (reason.Refused (e i), f i)) ∙ ap (toldClause make r) (sym (lt-leb (length r) (length before) l))
 
-pub explain-unique : (file : List ℕ) (a : List ℤ) (i : ℕ) (before after after′ : List ℤ) (r s : reason-answer.ReasonAnswer)
-    → ExplainedIs file a i before after r → ExplainedIs file a i before after′ s → (r ≡ s) × (after ≡ after′)
-unfolding ExplainedIs
-explain-unique file a i before after after′ r s h k = one-reason (reasonMet file a i) a i before after after′ r s h k
+  reason-led : (φ : PlanFile) (r : ReasonAnswer) (after : List ℤ) → ReasonCase φ a k before after r → Told (Gives φ) toldReason (r, after)
+  reason-led φ (reason.Refused y) after (r, inl h, l, n, f) = record { of = holds r; is = h; told = no-room reason.Holds r after y l n f }
+  reason-led φ (reason.Refused y) after (r, inr h, l, n, f) = record { of = fails r; is = h; told = no-room reason.Fails r after y l n f }
+  reason-led φ (reason.Holds n) after h = record { of = holds (h .0); is = h .1; told = written-out reason.Holds (h .0) after n (h .2) }
+  reason-led φ (reason.Fails n) after h = record { of = fails (h .0); is = h .1; told = written-out reason.Fails (h .0) after n (h .2) }
+  reason-led φ reason.Open after h = record { of = neither; is = h .0; told = kept (h .1) }
+
+pub reason-unique : (file : List ℕ) (a : List ℤ) (i : ℕ) (before : List ℤ) → OneLeft (ReasonedIs file a i before)
+reason-unique file a i before =
+    unique-left reason.Refused (Gives a i before) (λ φ. reasons.reason-unique φ a (atom (φ .atoms) (i - 1))) (toldReason a i before) before (λ r after φ. ReasonCase φ a i before after r) (reason-led a i before)
+
+-- ---- search
+
+module _ (budget : ℕ) (before : List ℤ) where
+  abbrev toldSearch : Answer × ℕ → SearchAnswer × List ℤ
+  toldSearch (decided (found p), b) = (search.Plan b, p)
+  toldSearch (decided nothing, b) = (search.Impossible b, before)
+  toldSearch (undecided, b) = (search.Undecided b, before)
+
+  abbrev Ends : PlanFile → Answer × ℕ → Type 0
+  Ends φ o = Searched φ (allOpen φ) budget (o .0) (o .1)
+
+  one-end : (φ : PlanFile) (o p : Answer × ℕ) → Ends φ o → Ends φ p → o ≡ p
+  one-end φ o p h k = let q = searched-unique φ h k in let e = q .0 in let f = q .1 in λ i. (e i, f i)
+
+  search-led : (φ : PlanFile) (r : SearchAnswer) (after : List ℤ) → SearchCase φ budget before after r → Told (Ends φ) toldSearch (r, after)
+  search-led φ (search.Refused y) after h = absurd h
+  search-led φ (search.Plan b) after h = record { of = (decided (found after), b); is = h; told = refl }
+  search-led φ (search.Impossible b) after h = record { of = (decided nothing, b); is = h .0; told = kept (h .1) }
+  search-led φ (search.Undecided b) after h = record { of = (undecided, b); is = h .0; told = kept (h .1) }
+
+pub search-unique : (file : List ℕ) (budget : ℕ) (before : List ℤ) → OneLeft (SearchedIs file budget before)
+search-unique file budget before =
+    unique-left search.Refused (Ends budget before) (one-end budget before) (toldSearch budget before) before (λ r after φ. SearchCase φ budget before after r) (search-led budget before)
+
+-- ---- write_clauses
+
+module _ (before : List ℤ) where
+  abbrev toldWrite : PlanFile → WriteAnswer × List ℤ
+  toldWrite φ = (write.Written (lastVariable φ) (length (written φ)) (length (flat (written φ))), flat (written φ) ++ drop (length (flat (written φ))) before)
+
+  write-led : (φ : PlanFile) (r : WriteAnswer) (after : List ℤ) → WriteCase φ before after r → Told (λ o. o ≡ φ) toldWrite (r, after)
+  write-led φ (write.Refused y) after h = absurd h
+  write-led φ (write.Written a b c) after h =
+      let x = h .last in
+      let y = h .count in
+      let z = h .length-is in
+      let w = h .wrote in
+      record { of = φ; is = refl; told = λ i. (write.Written (x i) (y i) (z i), w i) }
+
+pub write-clauses-unique : (file : List ℕ) (before : List ℤ) → OneLeft (WrittenIs file before)
+write-clauses-unique file before =
+    unique-left write.Refused (λ φ o. o ≡ φ) (λ φ o p e f. e ∙ sym f) (toldWrite before) before (λ r after φ. WriteCase φ before after r) (write-led before)

@@ -2,6 +2,6 @@ pub mod Refusing
 pub mod Read
 pub mod Judge
 pub mod Close
-pub mod Explain
-pub mod Find
-pub mod Write
+pub mod Reason
+pub mod Search
+pub mod WriteClauses

@@ -10,7 +10,7 @@ use Rattle.plan.specs.declared.Plan.{Plan}
 use Rattle.reader.specs.Format.{readPlan}
 use Rattle.reader.specs.declared.ReadAnswer.{ReadAnswer}
 use Rattle.reader.specs.declared.ReadAnswer.the-variants.{Accepted, Refused}
-use Rattle.planner.specs.Refusing.{Met, refusal, clear, afterReading, Names}
+use Rattle.planner.specs.Refusing.{clear, afterReading, Refuses, By}
 
 -- How many of each sort the file has.
 pub record Counts (φ : PlanFile) (p : Plan) : Type 0 where
@@ -21,14 +21,9 @@ pub record Counts (φ : PlanFile) (p : Plan) : Type 0 where
   pub clauses : length (φ .clauses) ≡ p .clauses
   pub literals : literals (φ .clauses) ≡ p .literals
 
-unfoldable pub readMet : List ℕ → Met
-readMet file = afterReading (readPlan file) (λ φ. clear φ)
+abbrev pub ReadCase : PlanFile → ReadAnswer → Type 0
+ReadCase φ (Refused y) = ⊥
+ReadCase φ (Accepted p) = Counts φ p
 
-abbrev pub ReadCase : Met → ReadAnswer → Type 0
-ReadCase (refusal n v) (Refused y) = Names n v y
-ReadCase (refusal n v) (Accepted p) = ⊥
-ReadCase (clear φ) (Refused y) = ⊥
-ReadCase (clear φ) (Accepted p) = Counts φ p
-
-unfoldable pub ReadIs : List ℕ → ReadAnswer → Type 0
-ReadIs file r = ReadCase (readMet file) r
+abbrev pub ReadIs : List ℕ → ReadAnswer → Type 0
+ReadIs file r = By (afterReading (readPlan file) (λ φ. clear φ)) (λ n v. Refuses Refused n v r) (λ φ. ReadCase φ r)

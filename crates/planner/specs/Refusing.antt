@@ -1,13 +1,14 @@
--- What a call refuses, and what it leaves in a lent buffer. Document 01, "Numbers given on refusal".
+-- What a call refuses. Document 01, "Numbers given on refusal".
 -- Assumes nothing.
 use mathlib.Core.Path.{_≡_}
 use mathlib.Core.Bool.{Bool, true, false, cond, _&&_, _||_}
-use mathlib.Core.List.{List, [], _∷_, _++_}
+use mathlib.Core.List.{List, [], _∷_}
 use Prim.Native.Nat.{ℕ, zero, suc}
 use lib.IntN.{ℤ, pos, negsuc}
 use lib.Dec.{eqb, leb}
-use lib.ListN.{length, drop}
+use lib.ListN.{length}
 use Rattle.plan.specs.Meaning.{PlanFile, isOn, isOff}
+use Rattle.plan.specs.Buffers.{Kept}
 use Rattle.plan.specs.Refusals.{numberOf, valueOf}
 use Rattle.plan.specs.declared.Refusal.{Refusal}
 use Rattle.reader.specs.Format.{Reading, refused, accepted}
@@ -23,7 +24,7 @@ require true n v m = m
 require false n v m = refusal n v
 
 -- "Order: 1; then record by record ..; then 9 to 12."
-abbrev pub afterReading : Reading → (PlanFile → Met) → Met
+unfoldable pub afterReading : Reading → (PlanFile → Met) → Met
 afterReading (refused n v) checks = refusal n v
 afterReading (accepted φ) checks = checks φ
 
@@ -65,10 +66,20 @@ pub record Names (n v : ℕ) (y : Refusal) : Type 0 where
   pub number : n ≡ numberOf y
   pub value : v ≡ valueOf y
 
--- "Every buffer then keeps its bytes."
-abbrev pub Kept : List ℤ → List ℤ → Type 0
-Kept before after = after ≡ before
+-- The answer r is the refusal with this number and this value.
+pub record Refuses {A : Type 0} (refuse : Refusal → A) (n v : ℕ) (r : A) : Type 0 where
+  pub why : Refusal
+  pub names : Names n v why
+  pub is : r ≡ refuse why
 
--- "A written answer fills its first places; the rest stays."
-abbrev pub Wrote : List ℤ → List ℤ → List ℤ → Type 0
-Wrote answer before after = after ≡ answer ++ drop (length answer) before
+-- A call's statement goes by what the call meets: R at a refusal, and C at a file with nothing in the way.
+abbrev pub Case : (ℕ → ℕ → Type 0) → (PlanFile → Type 0) → Met → Type 0
+Case R C (refusal n v) = R n v
+Case R C (clear φ) = C φ
+
+pub record By (m : Met) (R : ℕ → ℕ → Type 0) (C : PlanFile → Type 0) : Type 0 where
+  pub case : Case R C m
+
+-- "Every buffer then keeps its bytes": a call with a lent buffer, before and after.
+abbrev pub KeepingBy : {A : Type 0} → Met → (Refusal → A) → (PlanFile → Type 0) → List ℤ → List ℤ → A → Type 0
+KeepingBy m refuse C before after r = By m (λ n v. Refuses refuse n v r × Kept before after) C

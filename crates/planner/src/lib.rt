@@ -1,3 +1,4 @@
+// planner: the public calls of the library. Each reads the file, and what is accepted is lent on to its own function below.
 use clauses::Writing;
 use judge::Verdict;
 use plan::Assignment;
@@ -13,13 +14,13 @@ ghost use mathlib.Core.Path.{_≡_};
 ghost use lib.ListN.{length};
 ghost use Rattle.plan.specs.Search.{Assigned};
 ghost use Rattle.plan.specs.Tables.{planOf, Lent};
-ghost use Rattle.planner.specs.Refusing.{clear, firstNot, taken};
+ghost use Rattle.planner.specs.Refusing.{firstNot, taken};
 ghost use Rattle.planner.specs.Read.{ReadIs};
-ghost use Rattle.planner.specs.Judge.{judgeChecks, JudgeCase, JudgeIs};
-ghost use Rattle.planner.specs.Close.{closeChecks, CloseCase, ClosedIs};
-ghost use Rattle.planner.specs.Explain.{reasonChecks, ReasonCase, ExplainedIs};
-ghost use Rattle.planner.specs.Find.{searchChecks, SearchCase, SearchedIs};
-ghost use Rattle.planner.specs.Write.{writeChecks, WriteCase, WrittenIs};
+ghost use Rattle.planner.specs.Judge.{judgeChecks, JudgeBy, JudgeIs};
+ghost use Rattle.planner.specs.Close.{closeChecks, CloseCase, CloseBy, ClosedIs};
+ghost use Rattle.planner.specs.Reason.{reasonChecks, ReasonBy, ReasonedIs};
+ghost use Rattle.planner.specs.Search.{searchChecks, SearchBy, SearchedIs};
+ghost use Rattle.planner.specs.WriteClauses.{writeChecks, WriteBy, WrittenIs};
 
 pub enum JudgeAnswer {
     Refused(Refusal),
@@ -73,12 +74,13 @@ pub fn judge(file: &[u8], assignment: &[i8]) -> JudgeAnswer
     let reading = reader::read_into(file, &mut edges, &mut atoms, &mut clauses);
     match reading {
         ReadAnswer::Refused(refusal) => JudgeAnswer::Refused(refusal),
-        ReadAnswer::Accepted(plan) => {
-            let e = plan.edges * Edge::NUMBERS;
-            let b = plan.atoms * Atom::NUMBERS;
-            let c = plan.literals + plan.clauses;
-            judge_lent(plan, &edges[..e], &atoms[..b], &clauses[..c], assignment)
-        }
+        ReadAnswer::Accepted(plan) => judge_lent(
+            plan,
+            reader::used_edges(plan, &edges),
+            reader::used_atoms(plan, &atoms),
+            reader::used_clauses(plan, &clauses),
+            assignment,
+        ),
     }
 }
 
@@ -92,18 +94,20 @@ pub fn close(file: &[u8], given: &[i8], result: &mut [i8]) -> CloseAnswer
     let reading = reader::read_into(file, &mut edges, &mut atoms, &mut clauses);
     match reading {
         ReadAnswer::Refused(refusal) => CloseAnswer::Refused(refusal),
-        ReadAnswer::Accepted(plan) => {
-            let e = plan.edges * Edge::NUMBERS;
-            let b = plan.atoms * Atom::NUMBERS;
-            let c = plan.literals + plan.clauses;
-            close_lent(plan, &edges[..e], &atoms[..b], &clauses[..c], given, result)
-        }
+        ReadAnswer::Accepted(plan) => close_lent(
+            plan,
+            reader::used_edges(plan, &edges),
+            reader::used_atoms(plan, &atoms),
+            reader::used_clauses(plan, &clauses),
+            given,
+            result,
+        ),
     }
 }
 
 // The reason why an atom holds or fails under a partial assignment, as a clause; or that it is open. Atoms are numbered from 1.
 pub fn reason(file: &[u8], assignment: &[i8], atom: usize, out: &mut [i16]) -> ReasonAnswer
-    ensures { λ r. ⌜ ExplainedIs (now (file .entry)) (now (assignment .entry)) atom (now (out .entry)) (now (out .exit)) r ⌝ }
+    ensures { λ r. ⌜ ReasonedIs (now (file .entry)) (now (assignment .entry)) atom (now (out .entry)) (now (out .exit)) r ⌝ }
 {
     let mut edges = [0u16; Edge::TABLE];
     let mut atoms = [0u16; Atom::TABLE];
@@ -111,20 +115,15 @@ pub fn reason(file: &[u8], assignment: &[i8], atom: usize, out: &mut [i16]) -> R
     let reading = reader::read_into(file, &mut edges, &mut atoms, &mut clauses);
     match reading {
         ReadAnswer::Refused(refusal) => ReasonAnswer::Refused(refusal),
-        ReadAnswer::Accepted(plan) => {
-            let e = plan.edges * Edge::NUMBERS;
-            let b = plan.atoms * Atom::NUMBERS;
-            let c = plan.literals + plan.clauses;
-            reason_lent(
-                plan,
-                &edges[..e],
-                &atoms[..b],
-                &clauses[..c],
-                assignment,
-                atom,
-                out,
-            )
-        }
+        ReadAnswer::Accepted(plan) => reason_lent(
+            plan,
+            reader::used_edges(plan, &edges),
+            reader::used_atoms(plan, &atoms),
+            reader::used_clauses(plan, &clauses),
+            assignment,
+            atom,
+            out,
+        ),
     }
 }
 
@@ -139,19 +138,14 @@ pub fn search(file: &[u8], budget: u32, result: &mut [i8]) -> SearchAnswer
     let reading = reader::read_into(file, &mut edges, &mut atoms, &mut clauses);
     match reading {
         ReadAnswer::Refused(refusal) => SearchAnswer::Refused(refusal),
-        ReadAnswer::Accepted(plan) => {
-            let e = plan.edges * Edge::NUMBERS;
-            let b = plan.atoms * Atom::NUMBERS;
-            let c = plan.literals + plan.clauses;
-            search_lent(
-                plan,
-                &edges[..e],
-                &atoms[..b],
-                &clauses[..c],
-                budget,
-                result,
-            )
-        }
+        ReadAnswer::Accepted(plan) => search_lent(
+            plan,
+            reader::used_edges(plan, &edges),
+            reader::used_atoms(plan, &atoms),
+            reader::used_clauses(plan, &clauses),
+            budget,
+            result,
+        ),
     }
 }
 
@@ -165,12 +159,13 @@ pub fn write_clauses(file: &[u8], out: &mut [i32]) -> WriteAnswer
     let reading = reader::read_into(file, &mut edges, &mut atoms, &mut clauses);
     match reading {
         ReadAnswer::Refused(refusal) => WriteAnswer::Refused(refusal),
-        ReadAnswer::Accepted(plan) => {
-            let e = plan.edges * Edge::NUMBERS;
-            let b = plan.atoms * Atom::NUMBERS;
-            let c = plan.literals + plan.clauses;
-            write_lent(plan, &edges[..e], &atoms[..b], &clauses[..c], out)
-        }
+        ReadAnswer::Accepted(plan) => write_lent(
+            plan,
+            reader::used_edges(plan, &edges),
+            reader::used_atoms(plan, &atoms),
+            reader::used_clauses(plan, &clauses),
+            out,
+        ),
     }
 }
 
@@ -212,7 +207,7 @@ fn judge_lent(
     assignment: &[i8],
 ) -> JudgeAnswer
     requires { ⌜ Lent plan (now edges) (now atoms) (now clauses) ⌝ }
-    ensures { λ r. ⌜ JudgeCase (judgeChecks (now (assignment .entry)) (planOf plan (now (edges .entry)) (now (atoms .entry)) (now (clauses .entry)))) (now (assignment .entry)) r ⌝ }
+    ensures { λ r. ⌜ JudgeBy (judgeChecks (now (assignment .entry)) (planOf plan (now (edges .entry)) (now (atoms .entry)) (now (clauses .entry)))) (now (assignment .entry)) r ⌝ }
 {
     let variables = plan::wide(plan.variables);
     if assignment.len() != variables {
@@ -239,7 +234,7 @@ fn close_lent(
     result: &mut [i8],
 ) -> CloseAnswer
     requires { ⌜ Lent plan (now edges) (now atoms) (now clauses) ⌝ }
-    ensures { λ r. ⌜ CloseCase (closeChecks (now (given .entry)) (now (result .entry)) (planOf plan (now (edges .entry)) (now (atoms .entry)) (now (clauses .entry)))) (now (given .entry)) (now (result .entry)) (now (result .exit)) r ⌝ }
+    ensures { λ r. ⌜ CloseBy (closeChecks (now (given .entry)) (now (result .entry)) (planOf plan (now (edges .entry)) (now (atoms .entry)) (now (clauses .entry)))) (now (given .entry)) (now (result .entry)) (now (result .exit)) r ⌝ }
 {
     let variables = plan::wide(plan.variables);
     if given.len() != variables {
@@ -267,7 +262,7 @@ fn close_into(
     requires { ⌜ Lent plan (now edges) (now atoms) (now clauses) ⌝ }
     requires { ⌜ Assigned (plan .variables) (now given) ⌝ }
     requires { ⌜ length (now result) ≡ plan .variables ⌝ }
-    ensures { λ r. ⌜ CloseCase (clear (planOf plan (now (edges .entry)) (now (atoms .entry)) (now (clauses .entry)))) (now (given .entry)) (now (result .entry)) (now (result .exit)) r ⌝ }
+    ensures { λ r. ⌜ CloseCase (planOf plan (now (edges .entry)) (now (atoms .entry)) (now (clauses .entry))) (now (given .entry)) (now (result .entry)) (now (result .exit)) r ⌝ }
 {
     let variables = given.len();
     let open = Assignment::all_open();
@@ -291,7 +286,7 @@ fn reason_lent(
     out: &mut [i16],
 ) -> ReasonAnswer
     requires { ⌜ Lent plan (now edges) (now atoms) (now clauses) ⌝ }
-    ensures { λ r. ⌜ ReasonCase (reasonChecks (now (assignment .entry)) atom (planOf plan (now (edges .entry)) (now (atoms .entry)) (now (clauses .entry)))) (now (assignment .entry)) atom (now (out .entry)) (now (out .exit)) r ⌝ }
+    ensures { λ r. ⌜ ReasonBy (reasonChecks (now (assignment .entry)) atom (planOf plan (now (edges .entry)) (now (atoms .entry)) (now (clauses .entry)))) (now (assignment .entry)) atom (now (out .entry)) (now (out .exit)) r ⌝ }
 {
     let variables = plan::wide(plan.variables);
     if assignment.len() != variables {
@@ -326,7 +321,7 @@ fn search_lent(
     result: &mut [i8],
 ) -> SearchAnswer
     requires { ⌜ Lent plan (now edges) (now atoms) (now clauses) ⌝ }
-    ensures { λ r. ⌜ SearchCase (searchChecks (now (result .entry)) (planOf plan (now (edges .entry)) (now (atoms .entry)) (now (clauses .entry)))) budget (now (result .entry)) (now (result .exit)) r ⌝ }
+    ensures { λ r. ⌜ SearchBy (searchChecks (now (result .entry)) (planOf plan (now (edges .entry)) (now (atoms .entry)) (now (clauses .entry)))) budget (now (result .entry)) (now (result .exit)) r ⌝ }
 {
     let variables = plan::wide(plan.variables);
     if result.len() != variables {
@@ -348,7 +343,7 @@ fn write_lent(
     out: &mut [i32],
 ) -> WriteAnswer
     requires { ⌜ Lent plan (now edges) (now atoms) (now clauses) ⌝ }
-    ensures { λ r. ⌜ WriteCase (writeChecks (now (out .entry)) (planOf plan (now (edges .entry)) (now (atoms .entry)) (now (clauses .entry)))) (now (out .entry)) (now (out .exit)) r ⌝ }
+    ensures { λ r. ⌜ WriteBy (writeChecks (now (out .entry)) (planOf plan (now (edges .entry)) (now (atoms .entry)) (now (clauses .entry)))) (now (out .entry)) (now (out .exit)) r ⌝ }
 {
     let writing = clauses::write_clauses(plan, edges, atoms, clauses, out);
     match writing {

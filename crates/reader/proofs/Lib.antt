@@ -8,3 +8,4 @@ pub mod Exact
 pub mod Loop
 pub mod Lending
 pub mod Sample
+pub mod Cutting

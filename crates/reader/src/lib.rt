@@ -1,5 +1,6 @@
 // reader: a plan file's bytes into the tables. Here: the head, then record after record until the answer.
 mod fields;
+mod parts;
 mod records;
 
 ghost use mathlib.Core.List.{List};
@@ -10,6 +11,9 @@ ghost use Rattle.reader.specs.Filling.{Answers, Steps};
 use fields::head_ok;
 use fields::record_fits;
 use fields::word;
+pub use parts::used_atoms;
+pub use parts::used_clauses;
+pub use parts::used_edges;
 use plan::Atom;
 use plan::Clause;
 use plan::Edge;

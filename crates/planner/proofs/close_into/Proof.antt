@@ -14,9 +14,6 @@ use Rattle.closing.specs.Closed.{closedOf}
 use Rattle.planner.proofs.close_into.Statement.{statement}
 use Rattle.planner.proofs.close_into.Tie as tie
 
-all-open-requires : tie.Need-all-open-requires
-all-open-requires c κs = search needs
-
 -- the plan file and the given assignment, which fits into the local array
 module _ (c : tie.Start) where
   abbrev φ : PlanFile
@@ -34,15 +31,6 @@ module _ (c : tie.After-values) where
       let e : length (c .before .all-open .result .values) ≡ 512 = search needs in
       omega (arith, start .pre .1 .0 .long, start .pre .0 .ranged .variables)
 
-array-borrow-prefix-values : tie.Need-array-borrow-prefix-values
-array-borrow-prefix-values c = fits c
-
-slice-aggregate-copy : tie.Need-slice-aggregate-copy
-slice-aggregate-copy c = sym (length-take-le _ _ (fits (c .before)))
-
-copy-requires : tie.Need-copy-requires
-copy-requires c κs = length-take-le _ _ (fits (c .before))
-
 -- the copy is the given assignment, and stands at the array's front
 module _ (c : tie.After-copy) where
   abbrev at-start : tie.Start
@@ -53,12 +41,6 @@ module _ (c : tie.After-copy) where
 
   front : (rest : List ℤ) → take (length (g at-start)) (c .copy .last .0 ++ rest) ≡ g at-start
   front rest = take-at (c .copy .last .0) rest _ (ap length copied) ∙ copied
-
-array-borrow-prefix-values-2 : tie.Need-array-borrow-prefix-values-2
-array-borrow-prefix-values-2 c = simp length-append (omega (arith, ap length (copied (c .before))))
-
-slice-aggregate-close : tie.Need-slice-aggregate-close
-slice-aggregate-close c = sym (ap length (front (c .before .before) _))
 
 close-requires : tie.Need-close-requires
 close-requires c κs =
@@ -84,22 +66,10 @@ module _ (c : tie.After-close) where
   kept : (rest : List ℤ) → take (length (g (at-start at-copy))) (closed ++ rest) ≡ closed
   kept rest = take-at closed rest _ long
 
-returns : tie.Need-returns
-returns c = (closes (c .before .before) true (c .if1 .taken), refl)
-
-array-share-prefix-values : tie.Need-array-share-prefix-values
-array-share-prefix-values c = simp length-append (omega (arith, long (c .before .before .before)))
-
-slice-aggregate-copy-2 : tie.Need-slice-aggregate-copy-2
-slice-aggregate-copy-2 c = let d = c .before .before .before .before in sym (ap length (kept d _) ∙ long d)
-
 copy-requires-2 : tie.Need-copy-requires-2
 copy-requires-2 c κs =
     let d = c .before .before .before .before in
     at-start (at-copy d) .pre .1 .1 ∙ sym (ap length (kept d _) ∙ c .before .before .before .before .close .ensures .0 .long)
-
-same-length : tie.Need-same-length
-same-length c = search needs
 
 returns-2 : tie.Need-returns-2
 returns-2 c =
@@ -111,16 +81,16 @@ pub close-into-spec : {M : Type 1} → statement M
 close-into-spec =
     tie.close
     (tie.spec
-    all-open-requires
-    array-borrow-prefix-values
-    slice-aggregate-copy
-    copy-requires
-    array-borrow-prefix-values-2
-    slice-aggregate-close
+    (λ c κs. search needs)
+    (λ c. fits c)
+    (λ c. sym (length-take-le _ _ (fits (c .before))))
+    (λ c κs. length-take-le _ _ (fits (c .before)))
+    (λ c. simp length-append (omega (arith, ap length (copied (c .before)))))
+    (λ c. sym (ap length (front (c .before .before) _)))
     close-requires
-    returns
-    array-share-prefix-values
-    slice-aggregate-copy-2
+    (λ c. (closes (c .before .before) true (c .if1 .taken), refl))
+    (λ c. simp length-append (omega (arith, long (c .before .before .before))))
+    (λ c. let d = c .before .before .before .before in sym (ap length (kept d _) ∙ long d))
     copy-requires-2
-    same-length
+    (λ c. search needs)
     returns-2)

@@ -23,15 +23,6 @@ Inv-loop values partial i₀ i = (i ≤ length values) × (i + firstNot (taken p
 abbrev μ-loop : tie.MeasureT-loop
 μ-loop values partial i₀ i = length values - i
 
-loop-holds : tie.Need-loop-holds Inv-loop μ-loop
-loop-holds c = (omega arith, omega arith)
-
-shared-slice-copy-out-is-taken : tie.Need-shared-slice-copy-out-is-taken Inv-loop μ-loop
-shared-slice-copy-out-is-taken c = search needs
-
-is-taken-requires : tie.Need-is-taken-requires Inv-loop μ-loop
-is-taken-requires c κs = search needs
-
 module _ (c : tie.After-is-taken Inv-loop μ-loop) where
   abbrev a : List ℤ
   a = c .before .before .before .before .args .values .now
@@ -47,12 +38,6 @@ returns c =
     let d = c .before in
     omega (arith, first-here (taken (d .before .before .before .before .args .partial)) (a d) (i d) (d .before .before .loop-test .taken) (sym (ok d) ∙ not-true _ (c .if1 .taken)), d .before .before .before .loop .inv .1)
 
-add-i : tie.Need-add-i Inv-loop μ-loop
-add-i c = search needs
-
-loop-less : tie.Need-loop-less Inv-loop μ-loop
-loop-less c = search needs
-
 loop-again : tie.Need-loop-again Inv-loop μ-loop
 loop-again c =
     let d = c .before in (
@@ -60,9 +45,17 @@ loop-again c =
       rw add-one (sym (first-skip (taken (d .before .before .before .before .args .partial)) (a d) (i d) (d .before .before .loop-test .taken) (sym (ok d) ∙ not-false _ (c .if1 .left))) ∙ d .before .before .before .loop .inv .1),
     )
 
-returns-2 : tie.Need-returns-2 Inv-loop μ-loop
-returns-2 c = omega (arith, first-none (taken (c .before .before .args .partial)) (c .before .before .args .values .now) (c .before .loop .i) (c .loop-test .left), c .before .loop .inv .1)
-
 pub first-not-spec : {M : Type 1} → statement M
 first-not-spec =
-    tie.close (tie.spec Inv-loop μ-loop loop-holds shared-slice-copy-out-is-taken is-taken-requires returns add-i loop-less loop-again returns-2)
+    tie.close
+    (tie.spec
+    Inv-loop
+    μ-loop
+    (λ c. (omega arith, omega arith))
+    (λ c. search needs)
+    (λ c κs. search needs)
+    returns
+    (λ c. search needs)
+    (λ c. search needs)
+    loop-again
+    (λ c. omega (arith, first-none (taken (c .before .before .args .partial)) (c .before .before .args .values .now) (c .before .loop .i) (c .loop-test .left), c .before .loop .inv .1)))

@@ -1,32 +1,24 @@
+-- `read` answers as the reader does.
 use borrow.Author.Needs.{needs}
-use Rattle.planner.proofs.Reading.{read-is}
+use mathlib.Core.Path.{refl}
+use mathlib.Core.List.{List}
+use Prim.Native.Nat.{ℕ}
+use lib.IntN.{ℤ}
+use Rattle.reader.specs.Format.{Reading, refused, accepted, readPlan}
+use Rattle.reader.specs.Filling.{Answers}
+use Rattle.reader.specs.declared.ReadAnswer.{ReadAnswer}
+use Rattle.reader.specs.declared.ReadAnswer.the-variants.{Accepted, Refused}
+use Rattle.planner.specs.Refusing.{clear, afterReading, Refuses, Case}
+use Rattle.planner.specs.Read.{ReadCase}
 use Rattle.planner.proofs.read.Statement.{statement}
 use Rattle.planner.proofs.read.Tie as tie
-use Rattle.planner.proofs.read.Reads as reads
-use Rattle.planner.proofs.read.Lts as lts
-use Rattle.reader.proofs.read_into.Reads as read-into-reads
 
-slice-aggregate-read-into : tie.Need-slice-aggregate-read-into
-slice-aggregate-read-into c = search needs
-
-slice-aggregate-read-into-2 : tie.Need-slice-aggregate-read-into-2
-slice-aggregate-read-into-2 c = search needs
-
-slice-aggregate-read-into-3 : tie.Need-slice-aggregate-read-into-3
-slice-aggregate-read-into-3 c = search needs
-
-read-into-requires : tie.Need-read-into-requires
-read-into-requires c κs = search needs
-
-returns : tie.Need-returns
-returns c = read-is _ _ _ _ _ (c .before .before .before .read-into .ensures)
+read-case : (q : Reading) (r : ReadAnswer) (es bs : List ℕ) (cs : List ℤ) → Answers q r es bs cs → Case (λ n v. Refuses Refused n v r) (λ φ. ReadCase φ r) (afterReading q (λ φ. clear φ))
+unfolding afterReading
+read-case (refused n v) (Refused y) es bs cs h = record { why = y; names = record { number = h .0; value = h .1 }; is = refl }
+read-case (refused n v) (Accepted p) es bs cs h = absurd h
+read-case (accepted φ) (Refused y) es bs cs h = h
+read-case (accepted φ) (Accepted p) es bs cs h = record { nodes = h .nodes; variables = h .variables; edges = h .edges; atoms = h .atoms; clauses = h .clauses; literals = h .literals }
 
 pub read-spec : {M : Type 1} → statement M
-read-spec =
-    tie.close
-    (tie.spec
-    slice-aggregate-read-into
-    slice-aggregate-read-into-2
-    slice-aggregate-read-into-3
-    read-into-requires
-    returns)
+read-spec = tie.close (tie.spec (λ c κs. search needs) (λ c. record { case = read-case _ _ _ _ _ (c .read-into .ensures) }))

@@ -1,28 +1,50 @@
+-- `write_lent`: what the writer answers, as the call's answer; there is room exactly if the check holds.
 use borrow.Author.Needs.{needs}
-use Rattle.planner.proofs.Writing.{wrote, no-room}
+use mathlib.Core.Path.{_≡_, sym, ap, _∙_, subst}
+use mathlib.Core.List.{List}
+use native.Mathlib.Omega.{arith}
+use lib.IntN.{ℤ}
+use lib.ListN.{length}
+use Rattle.plan.specs.Meaning.{PlanFile}
+use Rattle.plan.specs.Tables.{planOf}
+use Rattle.plan.specs.Written.{flat, written}
+use Rattle.clauses.specs.Writing.{Writes}
+use Rattle.clauses.specs.declared.Writing as writing
+use Rattle.planner.specs.Refusing.{refusal, clear}
+use Rattle.planner.proofs.Stating.{meets, named, room-fails, room-holds}
 use Rattle.planner.proofs.write_lent.Statement.{statement}
 use Rattle.planner.proofs.write_lent.Tie as tie
 
-write-clauses-requires : tie.Need-write-clauses-requires
-write-clauses-requires c κs = search needs
+module _ (c : tie.After-write-clauses) where
+  abbrev s : tie.Start
+  s = c .before .before .before .before
 
-enum-known-writing : tie.Need-enum-known-writing
-enum-known-writing c = search needs
+  abbrev φ : PlanFile
+  φ = planOf (s .args .plan) (s .args .edges .now) (s .args .atoms .now) (s .args .clauses .now)
 
-enum-known-writing-2 : tie.Need-enum-known-writing-2
-enum-known-writing-2 c = search needs
-
-same-length : tie.Need-same-length
-same-length c = search needs
+  writes : {r : writing.Writing} → c .write-clauses .result ≡ r → Writes φ (s .args .out .now) (c .write-clauses .last .1 .1 .1 .1 .0) r
+  writes e = subst (λ r. Writes φ (s .args .out .now) (c .write-clauses .last .1 .1 .1 .1 .0) r) e (c .write-clauses .ensures)
 
 returns : tie.Need-returns
-returns c = wrote _ _ _ _ (c .before .before .before .before .write-clauses .ensures) _ (c .before .writing .given .1)
-
-same-length-2 : tie.Need-same-length-2
-same-length-2 c = search needs
+returns c =
+    let d = c .before .before .before .before in
+    let w = writes d (c .before .writing .given .1) in
+    meets (room-holds (clear (φ d)) (length (flat (written (φ d)))) (length (s d .args .out .now)) (w .room)) (record { last = w .variables; count = w .clauses; length-is = w .numbers; wrote = w .is })
 
 returns-2 : tie.Need-returns-2
-returns-2 c = no-room _ _ _ _ (c .before .before .before .before .write-clauses .ensures) _ (c .before .writing2 .given .1)
+returns-2 c =
+    let d = c .before .before .before .before in
+    let w = writes d (c .before .writing2 .given .1) in
+    meets (room-fails (clear (φ d)) (length (flat (written (φ d)))) (length (s d .args .out .now)) (omega (arith, w .numbers, w .room)) ∙ ap (refusal 12) (sym (w .numbers))) (named _, w .kept)
 
 pub write-lent-spec : {M : Type 1} → statement M
-write-lent-spec = tie.close (tie.spec write-clauses-requires enum-known-writing enum-known-writing-2 same-length returns same-length-2 returns-2)
+write-lent-spec =
+    tie.close
+    (tie.spec
+    (λ c κs. search needs)
+    (λ c. search needs)
+    (λ c. search needs)
+    (λ c. search needs)
+    returns
+    (λ c. search needs)
+    returns-2)

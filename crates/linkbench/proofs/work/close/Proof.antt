@@ -10,37 +10,16 @@ Inv-loop plan edges atoms clauses repetitions sum₀ left₀ sum left = Unit {0}
 abbrev μ-loop : tie.MeasureT-loop
 μ-loop plan edges atoms clauses repetitions sum₀ left₀ sum left = left
 
-loop-holds : tie.Need-loop-holds Inv-loop μ-loop
-loop-holds c = search needs
-
-close-once-requires : tie.Need-close-once-requires Inv-loop μ-loop
-close-once-requires c κs = search needs
-
-wrapping-add-u64-requires : tie.Need-wrapping-add-u64-requires Inv-loop μ-loop
-wrapping-add-u64-requires c κs = search needs
-
-sub-left : tie.Need-sub-left Inv-loop μ-loop
-sub-left c = search needs
-
-loop-less : tie.Need-loop-less Inv-loop μ-loop
-loop-less c = search needs
-
-loop-again : tie.Need-loop-again Inv-loop μ-loop
-loop-again c = search needs
-
-returns : tie.Need-returns Inv-loop μ-loop
-returns c = search needs
-
 pub close-spec : {M : Type 1} → statement M
 close-spec =
     tie.close
     (tie.spec
     Inv-loop
     μ-loop
-    loop-holds
-    close-once-requires
-    wrapping-add-u64-requires
-    sub-left
-    loop-less
-    loop-again
-    returns)
+    (λ c. search needs)
+    (λ c κs. search needs)
+    (λ c κs. search needs)
+    (λ c. search needs)
+    (λ c. search needs)
+    (λ c. search needs)
+    (λ c. search needs))

@@ -13,12 +13,6 @@ use Rattle.search.proofs.Firsts.{all-open-is, all-open-shape}
 use Rattle.linkbench.proofs.work.close_once.Statement.{statement}
 use Rattle.linkbench.proofs.work.close_once.Tie as tie
 
-all-open-requires : tie.Need-all-open-requires
-all-open-requires c κs = search needs
-
-wide-requires : tie.Need-wide-requires
-wide-requires c κs = search needs
-
 -- the first places of the 512
 module _ (c : tie.After-wide) where
   abbrev begin : tie.Start
@@ -38,31 +32,19 @@ module _ (c : tie.After-wide) where
   starts : take (c .wide .result) opened ≡ replicate (begin .args .plan .variables) (pos 0)
   starts = ap (λ n. take n opened) (c .wide .ensures) ∙ all-open-is _ opened few (c .before .before .all-open .ensures)
 
-array-borrow-prefix-values : tie.Need-array-borrow-prefix-values
-array-borrow-prefix-values c = inside c
-
-slice-aggregate-close : tie.Need-slice-aggregate-close
-slice-aggregate-close c = sym (length-take-le _ _ (inside (c .before)))
-
 close-requires : tie.Need-close-requires
 close-requires c κs =
     let d = c .before in
     (begin d .pre, subst (Assigned (begin d .args .plan .variables)) (sym (starts d)) (all-open-shape (begin d .args .plan .variables)))
 
-returns : tie.Need-returns
-returns c = search needs
-
-returns-2 : tie.Need-returns-2
-returns-2 c = search needs
-
 pub close-once-spec : {M : Type 1} → statement M
 close-once-spec =
     tie.close
     (tie.spec
-    all-open-requires
-    wide-requires
-    array-borrow-prefix-values
-    slice-aggregate-close
+    (λ c κs. search needs)
+    (λ c κs. search needs)
+    (λ c. inside c)
+    (λ c. sym (length-take-le _ _ (inside (c .before))))
     close-requires
-    returns
-    returns-2)
+    (λ c. search needs)
+    (λ c. search needs))

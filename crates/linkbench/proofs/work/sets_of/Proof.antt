@@ -12,12 +12,6 @@ use Rattle.walk.proofs.Lending.{lent-inside, lent-placed}
 use Rattle.linkbench.proofs.work.sets_of.Statement.{statement}
 use Rattle.linkbench.proofs.work.sets_of.Tie as tie
 
-all-open-requires : tie.Need-all-open-requires
-all-open-requires c κs = search needs
-
-wide-requires : tie.Need-wide-requires
-wide-requires c κs = search needs
-
 -- the first places of the 512
 module _ (c : tie.After-wide) where
   abbrev begin : tie.Start
@@ -37,27 +31,18 @@ module _ (c : tie.After-wide) where
   long-enough : length (take (c .wide .result) opened) ≡ begin .args .plan .variables
   long-enough = length-take-le _ _ inside ∙ c .wide .ensures
 
-array-share-prefix-values : tie.Need-array-share-prefix-values
-array-share-prefix-values c = inside c
-
-slice-aggregate-neighbours : tie.Need-slice-aggregate-neighbours
-slice-aggregate-neighbours c = sym (length-take-le _ _ (inside (c .before)))
-
 neighbours-requires : tie.Need-neighbours-requires
 neighbours-requires c κs =
     let d = c .before in
     (lent-inside (begin d .pre), lent-placed (begin d .pre) _ (long-enough d))
 
-returns : tie.Need-returns
-returns c = search needs
-
 pub sets-of-spec : {M : Type 1} → statement M
 sets-of-spec =
     tie.close
     (tie.spec
-    all-open-requires
-    wide-requires
-    array-share-prefix-values
-    slice-aggregate-neighbours
+    (λ c κs. search needs)
+    (λ c κs. search needs)
+    (λ c. inside c)
+    (λ c. sym (length-take-le _ _ (inside (c .before))))
     neighbours-requires
-    returns)
+    (λ c. search needs))

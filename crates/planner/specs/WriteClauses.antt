@@ -8,17 +8,15 @@ use lib.IntN.{ℤ}
 use lib.Dec.{leb}
 use Rattle.plan.specs.Meaning.{PlanFile}
 use Rattle.plan.specs.Written.{flat, written, lastVariable}
+use Rattle.plan.specs.Buffers.{Wrote}
 use Rattle.reader.specs.Format.{readPlan}
 use Rattle.planner.specs.declared.WriteAnswer.{WriteAnswer}
 use Rattle.planner.specs.declared.WriteAnswer.the-variants.{Refused, Written}
-use Rattle.planner.specs.Refusing.{Met, refusal, clear, afterReading, require, Names, Kept, Wrote}
+use Rattle.planner.specs.Refusing.{Met, clear, afterReading, require, KeepingBy}
 
 -- "12: output buffer too short for the exact answer; length needed"
 abbrev pub writeChecks : List ℤ → PlanFile → Met
 writeChecks before φ = require (leb (length (flat (written φ))) (length before)) 12 (length (flat (written φ))) (clear φ)
-
-unfoldable pub writeMet : List ℕ → List ℤ → Met
-writeMet file before = afterReading (readPlan file) (writeChecks before)
 
 -- "a list of signed 32-bit numbers, each clause ended by 0, with the counts of variables, clauses and numbers"
 pub record WrittenOut (φ : PlanFile) (before after : List ℤ) (variables clauses numbers : ℕ) : Type 0 where
@@ -27,11 +25,12 @@ pub record WrittenOut (φ : PlanFile) (before after : List ℤ) (variables claus
   pub length-is : numbers ≡ length (flat (written φ))
   pub wrote : Wrote (flat (written φ)) before after
 
-abbrev pub WriteCase : Met → List ℤ → List ℤ → WriteAnswer → Type 0
-WriteCase (refusal n v) before after (Refused y) = Names n v y × Kept before after
-WriteCase (refusal n v) before after (Written a b c) = ⊥
-WriteCase (clear φ) before after (Refused y) = ⊥
-WriteCase (clear φ) before after (Written a b c) = WrittenOut φ before after a b c
+abbrev pub WriteCase : PlanFile → List ℤ → List ℤ → WriteAnswer → Type 0
+WriteCase φ before after (Refused y) = ⊥
+WriteCase φ before after (Written a b c) = WrittenOut φ before after a b c
 
-unfoldable pub WrittenIs : List ℕ → List ℤ → List ℤ → WriteAnswer → Type 0
-WrittenIs file before after r = WriteCase (writeMet file before) before after r
+abbrev pub WriteBy : Met → List ℤ → List ℤ → WriteAnswer → Type 0
+WriteBy m before after r = KeepingBy m Refused (λ φ. WriteCase φ before after r) before after r
+
+abbrev pub WrittenIs : List ℕ → List ℤ → List ℤ → WriteAnswer → Type 0
+WrittenIs file before after r = WriteBy (afterReading (readPlan file) (writeChecks before)) before after r

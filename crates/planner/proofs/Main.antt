@@ -1,0 +1,137 @@
+-- Every promise to the customer in one file: each is a definition whose statement is written out, and whose proof is the law that shows it.
+-- A public call's own statement is the `ensures` of its function in src/lib.rt, in the words of specs/. "01" is document 01.
+-- Assumes nothing.
+use mathlib.Core.Path.{_≡_}
+use mathlib.Core.Logic.{_⊎_}
+use mathlib.Core.List.{List, List·Memᴰ}
+use Prim.Native.Nat.{ℕ, _-_, _^_, _≤_, _<_}
+use lib.IntN.{ℤ}
+use lib.ListN.{length, take}
+use Rattle.plan.specs.Meaning.{PlanFile, Atom, Full, HasTrue, IsRight, IsPlan}
+use Rattle.plan.specs.Ranged.{Ranged}
+use Rattle.plan.specs.Reason.{holds, fails, ReasonIs}
+use Rattle.plan.specs.Search.{opens, Closes, Outcome, Tree, Before}
+use Rattle.plan.specs.Tables.{clausesOf}
+use Rattle.plan.specs.Written.{written, ExactlyOne}
+use Rattle.plan.specs.declared.Refusal.{Refusal}
+use Rattle.plan.proofs.Cases as cases
+use Rattle.plan.proofs.Reason as reasons
+use Rattle.encoding.specs.Counts.{Counted}
+use Rattle.encoding.proofs.Sizes as sizes
+use Rattle.reader.specs.Format.{accepted, readPlan}
+use Rattle.reader.specs.declared.ReadAnswer.{ReadAnswer}
+use Rattle.reader.proofs.Accepts as accepts
+use Rattle.planner.specs.declared.JudgeAnswer.{JudgeAnswer}
+use Rattle.planner.specs.declared.CloseAnswer.{CloseAnswer}
+use Rattle.planner.specs.declared.ReasonAnswer.{ReasonAnswer}
+use Rattle.planner.specs.declared.SearchAnswer.{SearchAnswer}
+use Rattle.planner.specs.declared.SearchAnswer.the-variants.{Plan, Impossible, Undecided}
+use Rattle.planner.specs.declared.WriteAnswer.{WriteAnswer}
+use Rattle.planner.specs.declared.WriteAnswer.the-variants.{Written}
+use Rattle.planner.specs.Refusing.{refusal, Refuses, KeepingBy}
+use Rattle.planner.specs.Read.{ReadIs}
+use Rattle.planner.specs.Judge.{JudgeIs}
+use Rattle.planner.specs.Close.{ClosedIs}
+use Rattle.planner.specs.Reason.{ReasonedIs}
+use Rattle.planner.specs.Search.{allOpen, SearchedIs}
+use Rattle.planner.specs.WriteClauses.{WrittenIs}
+use Rattle.planner.proofs.Unique as one
+use Rattle.planner.proofs.Demand2 as demand-2
+use Rattle.planner.proofs.Demand3 as demand-3
+
+-- Demand 1: every call ends, stays inside the lent buffers, and answers or refuses with 01's number; a refusal changes no buffer; no call has
+-- a `requires`. That is the functions' own proofs. "Every buffer then keeps its bytes": where a call meets a refusal, its statement says this.
+pub refusal-keeps : {A : Type 0} {refuse : Refusal → A} {C : PlanFile → Type 0} {n v : ℕ} {before after : List ℤ} {r : A} → KeepingBy (refusal n v) refuse C before after r
+    → Refuses refuse n v r × (after ≡ before)
+refusal-keeps h = h .case
+
+-- "Each public call's statement determines answer, count and every byte of lent memory
+-- for all inputs, refused ones too; that no second answer fits it is shown."
+pub read-unique : (file : List ℕ) (r s : ReadAnswer) → ReadIs file r → ReadIs file s → r ≡ s
+read-unique = one.read-unique
+
+pub judge-unique : (file : List ℕ) (assignment : List ℤ) (r s : JudgeAnswer) → JudgeIs file assignment r → JudgeIs file assignment s → r ≡ s
+judge-unique = one.judge-unique
+
+pub close-unique : (file : List ℕ) (given before after after′ : List ℤ) (r s : CloseAnswer)
+    → ClosedIs file given before after r → ClosedIs file given before after′ s → (r ≡ s) × (after ≡ after′)
+close-unique = one.close-unique
+
+pub reason-unique : (file : List ℕ) (assignment : List ℤ) (number : ℕ) (before after after′ : List ℤ) (r s : ReasonAnswer)
+    → ReasonedIs file assignment number before after r → ReasonedIs file assignment number before after′ s → (r ≡ s) × (after ≡ after′)
+reason-unique = one.reason-unique
+
+pub search-unique : (file : List ℕ) (budget : ℕ) (before after after′ : List ℤ) (r s : SearchAnswer)
+    → SearchedIs file budget before after r → SearchedIs file budget before after′ s → (r ≡ s) × (after ≡ after′)
+search-unique = one.search-unique
+
+pub write-clauses-unique : (file : List ℕ) (before after after′ : List ℤ) (r s : WriteAnswer)
+    → WrittenIs file before after r → WrittenIs file before after′ s → (r ≡ s) × (after ≡ after′)
+write-clauses-unique = one.write-clauses-unique
+
+-- 01, "Ranges": what is accepted keeps to them.
+pub accepted-in-range : (file : List ℕ) (φ : PlanFile) → readPlan file ≡ accepted φ → Ranged φ
+accepted-in-range = accepts.read-ranged
+
+-- 01, "Judging and reasons": "Such a clause is true in every assignment where that atom's variable equals its truth."
+module _ (φ : PlanFile) (ok : Ranged φ) (a : List ℤ) (A : Atom) (is-atom : List·Memᴰ A (φ .atoms)) (b : List ℤ) (full : Full (φ .variables) b) (right : IsRight φ b A) (clause : List ℤ) where
+  pub holds-clause-true : ReasonIs φ a A (holds clause) → HasTrue b clause
+  holds-clause-true = reasons.holds-true φ ok a A is-atom b full right clause
+
+  pub fails-clause-true : ReasonIs φ a A (fails clause) → HasTrue b clause
+  fails-clause-true = reasons.fails-true φ ok a A is-atom b full right clause
+
+-- Demand 2: plan, impossible and undecided are exactly right; a plan is the first; the count is exact. First: B, "the count of the whole
+-- search without a budget", is there.
+pub whole-search : (φ : PlanFile) → Ranged φ → (o : Outcome) × (B : ℕ) × Tree φ (allOpen φ) o B
+whole-search = demand-2.whole-search
+
+module _ (file : List ℕ) (φ : PlanFile) (reads : readPlan file ≡ accepted φ) (budget : ℕ) (before after : List ℤ) (long : length before ≡ φ .variables) where
+  pub plan-is-first : (b : ℕ) → SearchedIs file budget before after (Plan b) → IsPlan φ after × ((q : List ℤ) → IsPlan φ q → (after ≡ q) ⊎ Before φ after q)
+  plan-is-first = demand-2.plan-is-first file φ reads budget before after long
+
+  pub impossible-is : (b : ℕ) → SearchedIs file budget before after (Impossible b) → (q : List ℤ) → IsPlan φ q → ⊥
+  impossible-is = demand-2.impossible-is file φ reads budget before after long
+
+  -- "'Undecided' exactly if B is above the budget (u32); then the reported count is the budget, else it is B."
+  module _ {o : Outcome} {B : ℕ} (tree : Tree φ (allOpen φ) o B) where
+    pub plan-count : (b : ℕ) → SearchedIs file budget before after (Plan b) → (b ≡ B) × (B ≤ budget)
+    plan-count = demand-2.plan-count file φ reads budget before after long tree
+
+    pub impossible-count : (b : ℕ) → SearchedIs file budget before after (Impossible b) → (b ≡ B) × (B ≤ budget)
+    impossible-count = demand-2.impossible-count file φ reads budget before after long tree
+
+    pub undecided-count : (b : ℕ) → SearchedIs file budget before after (Undecided b) → (b ≡ budget) × (budget < B)
+    undecided-count = demand-2.undecided-count file φ reads budget before after long tree
+
+    pub found-if : (r : SearchAnswer) → SearchedIs file budget before after r → B ≤ budget → (q : List ℤ) → IsPlan φ q → r ≡ Plan B
+    found-if = demand-2.found-if file φ reads budget before after long tree
+
+    pub impossible-if : (r : SearchAnswer) → SearchedIs file budget before after r → B ≤ budget → ((q : List ℤ) → IsPlan φ q → ⊥) → r ≡ Impossible B
+    impossible-if = demand-2.impossible-if file φ reads budget before after long tree
+
+    pub undecided-if : (r : SearchAnswer) → SearchedIs file budget before after r → budget < B → r ≡ Undecided budget
+    undecided-if = demand-2.undecided-if file φ reads budget before after long tree
+
+    -- "With k variables open after the first closing, B is at most 2 to the k, less 1."
+    pub count-at-most : (c : List ℤ) → Closes φ (allOpen φ) c → B ≤ 2 ^ opens c - 1
+    count-at-most = demand-2.count-at-most file φ reads budget before after long tree
+
+-- Demand 3: the written clauses have exactly one continuation for each plan and none for anything else; read back at the zeros, from the
+-- numbers in the caller's buffer. The counts are 01's formulas.
+module _ (file : List ℕ) (φ : PlanFile) (reads : readPlan file ≡ accepted φ) (before after : List ℤ) (variables clauses numbers : ℕ) (h : WrittenIs file before after (Written variables clauses numbers)) where
+  pub written-exactly-one : ExactlyOne φ (clausesOf (take numbers after)) variables
+  written-exactly-one = demand-3.written-exactly-one file φ reads before after variables clauses numbers h
+
+  pub reads-back : clausesOf (take numbers after) ≡ written φ
+  reads-back = demand-3.reads-back file φ reads before after variables clauses numbers h
+
+  pub clause-count : clauses ≡ length (clausesOf (take numbers after))
+  clause-count = demand-3.clause-count file φ reads before after variables clauses numbers h
+
+pub counts-by-formula : (φ : PlanFile) → Ranged φ → Counted φ
+counts-by-formula = sizes.counted
+
+-- "P1 to P10 are one table, shown from the definitions by one argument"
+pub cases-shown : (c : cases.Case) → List·Memᴰ c cases.table → cases.Says c
+cases-shown = cases.shown
