@@ -101,7 +101,7 @@ module _ {n : ℕ} {es : List Edge} {base : ℕ} {As : List Atom} {j b top : ℕ
       ap₂ (λ x L. x + blockVariables n (length es) L) (t .at) (t .levels-is ∙ ap (levels n) (t .is))
       ∙ sym (before-next n es base As j (t .inside))
 
-  pub next-last : b + blockVariables n (length es) top < 1000000000
+  pub next-last : b + blockVariables n (length es) top < 1073741824
   next-last = omega (arith, next-before, before-le n es base As (j + 1), t .low .last)
 
   pub next-low : LowBlock es n b top
