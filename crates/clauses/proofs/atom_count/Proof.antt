@@ -1,3 +1,4 @@
+-- A row of the atom table has five numbers.
 use mathlib.Core.Path.{sym}
 use Rattle.clauses.proofs.Tabled.{atom-number}
 use Rattle.clauses.proofs.atom_count.Statement.{statement}

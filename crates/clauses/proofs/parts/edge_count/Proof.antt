@@ -1,3 +1,4 @@
+-- A row of the edge table has three numbers.
 use mathlib.Core.Path.{sym}
 use Rattle.clauses.proofs.Tabled.{edge-number}
 use Rattle.clauses.proofs.parts.edge_count.Statement.{statement}
