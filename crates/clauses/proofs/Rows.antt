@@ -3,7 +3,7 @@
 use mathlib.Core.Path.{_≡_, refl, sym, _∙_, ap, ap₂, fun-ext}
 use mathlib.Core.List.{List, [], _∷_, _++_, append-assoc}
 use mathlib.Core.Bool.{Bool, true, false, cond}
-use Prim.Native.Nat.{ℕ, suc, _+_, _*_, _<_}
+use Prim.Native.Nat.{ℕ, suc, _+_, _<_}
 use native.Mathlib.Omega.{arith}
 use native.Mathlib.Nat.{mul-le-mul-right}
 use lib.IntN.{ℤ, pos}
@@ -103,21 +103,6 @@ module _ (n : ℕ) (es : List Edge) (base : ℕ) where
   unfolding atomBlock
   atom-is A = block-is (levels n A) (A .from) (A .to) (A .variable)
 
--- the code's numbers of a level, which it adds up, are those of level i
-module _ (es : List Edge) (n base i now step : ℕ) (at : now ≡ firstAt es n base i) (by : step ≡ n + length es) where
-  pub level-row : levelRow es n (record { nodes = now; edges = now + n; next = now + step }) ≡ levelRow es n (levelFrom es n (firstAt es n base i))
-  level-row = ap₂ (λ f d. levelRow es n (record { nodes = f; edges = f + n; next = f + d })) at by
-
-  pub level-low : (top : ℕ) → LowBlock es n base top → i < top → Early (now + step)
-  level-low top low l = omega (arith, low .last, mul-le-mul-right {m = suc i} {n = top} (n + length es) l)
-
--- the pieces of a block, with the numbers as the code reads and adds them
-pub block-row : (n : ℕ) (es : List Edge) (base top step s t a s′ t′ a′ : ℕ) → step ≡ n + length es → s ≡ s′ → t ≡ t′ → a ≡ a′
-    → (startRow n s (base + 1) ++ levelsRow es n base top) ++ endRow a (base + 1 + top * step + t) ≡ blockRow n es base top s′ t′ a′
-unfolding blockRow
-block-row n es base top step s t a s′ t′ a′ e p q r =
-    ap₂ _++_ (ap (λ x. startRow n x (base + 1) ++ levelsRow es n base top) p) (ap₂ endRow r (ap₂ (λ d x. base + 1 + top * d + x) e q))
-
--- the last level's numbers are low
-pub end-low : {n base top m : ℕ} {es : List Edge} → LowBlock es n base top → m ≡ length es → Early (base + 1 + top * (n + m))
-end-low {n} {base} {top} {m} {es} low e = omega (arith, low .last, ap (λ k. top * (n + k)) e)
+-- the numbers behind level i are low
+pub level-low : {es : List Edge} {n base top i : ℕ} → LowBlock es n base top → i < top → Early (firstAt es n base i + (n + length es))
+level-low {es} {n} {base} {top} {i} low l = omega (arith, low .last, mul-le-mul-right {m = suc i} {n = top} (n + length es) l)

@@ -1,7 +1,7 @@
 -- The start, the levels and the end, with the numbers as the code reads and adds them.
-use mathlib.Core.Path.{_≡_, sym, ap}
+use mathlib.Core.Path.{_≡_, sym, subst}
 use mathlib.Core.List.{List, _++_}
-use Prim.Native.Nat.{_+_, _*_}
+use Prim.Native.Nat.{ℕ, _+_, _*_}
 use native.Mathlib.Omega.{arith}
 use lib.IntN.{ℤ}
 use Rattle.plan.specs.Meaning.{Edge}
@@ -9,7 +9,6 @@ use Rattle.plan.specs.Tables.{edgesOf}
 use Rattle.clauses.specs.Front.{Room}
 use Rattle.clauses.specs.Rows.{Early, startRow, levelsRow, endRow, blockRow}
 use Rattle.clauses.proofs.Fronts.{room-first, room-rest, room-as, put-as, put-then}
-use Rattle.clauses.proofs.Rows.{block-row, end-low}
 use Rattle.clauses.proofs.block.put_block.Statement.{statement}
 use Rattle.clauses.proofs.block.put_block.Tie as tie
 
@@ -21,26 +20,24 @@ module _ (c : tie.After-edge-count) where
   abbrev es : List Edge
   es = edgesOf (begin .args .edges .now)
 
-  -- the start and the levels
-  abbrev front : List ℤ
-  front = let t = begin .args in startRow (t .nodes) (c .before .before .before .wide .result) (t .base + 1) ++ levelsRow es (t .nodes) (t .base) (t .top)
+  -- the block with so many edges, from s to t with the atom's variable a
+  abbrev rowOf : ℕ → ℕ → ℕ → ℕ → List ℤ
+  rowOf m s t a =
+      let x = begin .args in
+      (startRow (x .nodes) s (x .base + 1) ++ levelsRow es (x .nodes) (x .base) (x .top)) ++ endRow a (x .base + 1 + x .top * (x .nodes + m) + t)
 
-  abbrev ending : List ℤ
-  ending = let t = begin .args in endRow (c .before .wide3 .result) (t .base + 1 + t .top * (t .nodes + c .edge-count .result) + c .before .before .wide2 .result)
+  abbrev row : List ℤ
+  row = rowOf (c .edge-count .result) (c .before .before .before .wide .result) (c .before .before .wide2 .result) (c .before .wide3 .result)
 
-  abbrev whole : List ℤ
-  whole = let t = begin .args in blockRow (t .nodes) es (t .base) (t .top) (t .atom .from) (t .atom .to) (t .atom .variable)
+  row-is : row ≡ blockRow (begin .args .nodes) es (begin .args .base) (begin .args .top) (begin .args .atom .from) (begin .args .atom .to) (begin .args .atom .variable)
+  unfolding blockRow
+  row-is = λ i. rowOf (c .edge-count .ensures i) (c .before .before .before .wide .ensures i) (c .before .before .wide2 .ensures i) (c .before .wide3 .ensures i)
 
-  row : front ++ ending ≡ whole
-  row =
-      block-row (begin .args .nodes) es (begin .args .base) (begin .args .top) _ _ _ _ _ _ _ (ap (λ m. begin .args .nodes + m) (c .edge-count .ensures))
-      (c .before .before .before .wide .ensures) (c .before .before .wide2 .ensures) (c .before .wide3 .ensures)
-
-  room : Room (front ++ ending) (begin .args .at) (begin .args .out .now)
-  room = room-as (sym row) (begin .pre .0)
+  room : Room row (begin .args .at) (begin .args .out .now)
+  room = room-as (sym row-is) (begin .pre .0)
 
   low : Early (begin .args .base + 1 + begin .args .top * (begin .args .nodes + c .edge-count .result))
-  low = end-low (begin .pre .1) (c .edge-count .ensures)
+  low = let x = begin .args in subst (λ m. Early (x .base + 1 + x .top * (x .nodes + m))) (sym (c .edge-count .ensures)) (begin .pre .1 .last)
 
 put-start-requires : tie.Need-put-start-requires
 put-start-requires c κs = (room-first _ _ (room-first _ _ (room (c .before))), omega arith)
@@ -72,7 +69,7 @@ returns c =
     let end = c .before in
     let d = end .before .before .before in
     let s = started d in
-    put-as (row (read s)) (put-then (put-then (s .put-start .ensures) (d .put-levels .ensures)) (end .put-end .ensures))
+    put-as (row-is (read s)) (put-then (put-then (s .put-start .ensures) (d .put-levels .ensures)) (end .put-end .ensures))
 
 pub put-block-spec : {M : Type 1} → statement M
 put-block-spec =

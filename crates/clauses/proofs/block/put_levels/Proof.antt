@@ -1,16 +1,16 @@
 -- The levels, one behind the other; the first number of a level is that of the one before and a step.
-use mathlib.Core.Path.{_≡_, sym, ap}
+use mathlib.Core.Path.{_≡_, sym, ap₂}
 use mathlib.Core.List.{List}
 use Prim.Native.Nat.{ℕ, _+_, _-_}
 use native.Mathlib.Omega.{arith}
+use lib.IntN.{ℤ}
 use lib.ListN.{length}
 use Rattle.plan.specs.Meaning.{Edge}
 use Rattle.plan.specs.Tables.{edgesOf}
-use Rattle.clauses.specs.declared.block.Level.{Level}
 use Rattle.clauses.specs.Rows.{Early, levelRow, firstAt, levelFrom, levelsRow}
 use Rattle.clauses.proofs.Filling.{Filling, filling-start, filling-room, filling-turn, filling-end}
 use Rattle.clauses.proofs.Fronts.{put-as, room-as}
-use Rattle.clauses.proofs.Rows.{level-row, level-low}
+use Rattle.clauses.proofs.Rows.{level-low}
 use Rattle.clauses.proofs.block.put_levels.Statement.{statement}
 use Rattle.clauses.proofs.block.put_levels.Tie as tie
 
@@ -37,29 +37,20 @@ module _ (c : tie.In-loop Inv-loop μ-loop) where
   abbrev es : List Edge
   es = edgesOf (begin .args .edges .now)
 
-  abbrev nodes : ℕ
-  nodes = begin .args .nodes
+  -- a level from its first number, with so many edges
+  abbrev rowOf : ℕ → ℕ → List ℤ
+  rowOf first m = let n = begin .args .nodes in levelRow es n (record { nodes = first; edges = first + n; next = first + (n + m) })
 
-  abbrev first : ℕ
-  first = turn .loop .first
+  row : rowOf (turn .loop .first) (turn .before .edge-count .result) ≡ rowOf (firstAt es (begin .args .nodes) (begin .args .base) (turn .loop .i)) (length es)
+  row = ap₂ rowOf (turn .loop .inv .1) (turn .before .edge-count .ensures)
 
-  abbrev step : ℕ
-  step = nodes + turn .before .edge-count .result
-
-  step-is : step ≡ nodes + length es
-  step-is = ap (λ m. nodes + m) (turn .before .edge-count .ensures)
-
-  abbrev level : Level
-  level = record { nodes = first; edges = first + nodes; next = first + step }
-
-  row : levelRow es nodes level ≡ levelRow es nodes (levelFrom es nodes (firstAt es nodes (begin .args .base) (turn .loop .i)))
-  row = level-row es nodes (begin .args .base) (turn .loop .i) first step (turn .loop .inv .1) step-is
-
-  low : Early (first + step)
-  low = level-low es nodes (begin .args .base) (turn .loop .i) first step (turn .loop .inv .1) step-is (begin .args .top) (begin .pre .1) (c .loop-test .taken)
+  low : Early (turn .loop .first + (begin .args .nodes + turn .before .edge-count .result))
+  low = omega (arith, turn .before .edge-count .ensures, turn .loop .inv .1, level-low (begin .pre .1) (c .loop-test .taken))
 
 put-level-requires : tie.Need-put-level-requires Inv-loop μ-loop
-put-level-requires c κs = let d = c .before in (room-as (sym (row d)) (filling-room (turn d .loop .inv .0) (d .loop-test .taken)), omega (arith, low d))
+put-level-requires c κs =
+    let d = c .before in
+    (room-as (sym (row d)) (filling-room (turn d .loop .inv .0) (d .loop-test .taken)), omega (arith, low d))
 
 loop-again : tie.Need-loop-again Inv-loop μ-loop
 loop-again c =

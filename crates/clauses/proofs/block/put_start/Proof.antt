@@ -12,31 +12,18 @@ Inv-loop out₀ at nodes source first end₀ w₀ out end w = Filling (λ j. alo
 abbrev μ-loop : tie.MeasureT-loop
 μ-loop out₀ at nodes source first end₀ w₀ out end w = nodes - w
 
-loop-holds : tie.Need-loop-holds Inv-loop μ-loop
-unfolding startRow
-loop-holds c = filling-start (c .pre .0)
-
-put-alone-requires : tie.Need-put-alone-requires Inv-loop μ-loop
-put-alone-requires c κs = (filling-room (c .before .before .loop .inv) (omega arith), omega arith)
-
-loop-again : tie.Need-loop-again Inv-loop μ-loop
-loop-again c = filling-turn (c .before .before .before .before .loop .inv) (omega arith) (c .before .put-alone .ensures)
-
-returns : tie.Need-returns Inv-loop μ-loop
-unfolding startRow
-returns c = filling-end (c .before .loop .inv) (omega arith)
-
 pub put-start-spec : {M : Type 1} → statement M
+unfolding startRow
 put-start-spec =
     tie.close
     (tie.spec
     Inv-loop
     μ-loop
-    loop-holds
+    (λ c. filling-start (c .pre .0))
     (λ c. omega arith)
-    put-alone-requires
+    (λ c κs. (filling-room (c .before .before .loop .inv) (omega arith), omega arith))
     (λ c. omega arith)
     (λ c. omega arith)
-    loop-again
+    (λ c. filling-turn (c .before .before .before .before .loop .inv) (omega arith) (c .before .put-alone .ensures))
     (λ c. omega arith)
-    returns)
+    (λ c. filling-end (c .before .loop .inv) (omega arith)))

@@ -7,9 +7,6 @@ use Rattle.clauses.proofs.Numbers.{kept-on}
 use Rattle.clauses.proofs.parts.put_on.Statement.{statement}
 use Rattle.clauses.proofs.parts.put_on.Tie as tie
 
-returns : tie.Need-returns
-returns c = rw (kept-on (c .args .variable) (c .pre .1)) (put-one (pos (c .args .variable)) (c .args .at) (c .args .out .now) (omega arith))
-
 pub put-on-spec : {M : Type 1} → statement M
 put-on-spec =
     tie.close
@@ -19,4 +16,4 @@ put-on-spec =
     (λ c. search needs)
     (λ c. search needs)
     (λ c. search needs)
-    returns)
+    (λ c. rw (kept-on (c .args .variable) (c .pre .1)) (put-one (pos (c .args .variable)) (c .args .at) (c .args .out .now) (omega arith))))

@@ -6,8 +6,5 @@ use Rattle.clauses.proofs.Fronts.{put-one}
 use Rattle.clauses.proofs.parts.put_zero.Statement.{statement}
 use Rattle.clauses.proofs.parts.put_zero.Tie as tie
 
-returns : tie.Need-returns
-returns c = put-one (pos 0) (c .args .at) (c .args .out .now) (omega arith)
-
 pub put-zero-spec : {M : Type 1} → statement M
-put-zero-spec = tie.close (tie.spec (λ c. search needs) (λ c. search needs) (λ c. search needs) (λ c. search needs) returns)
+put-zero-spec = tie.close (tie.spec (λ c. search needs) (λ c. search needs) (λ c. search needs) (λ c. search needs) (λ c. put-one (pos 0) (c .args .at) (c .args .out .now) (omega arith)))
