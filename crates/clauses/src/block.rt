@@ -68,8 +68,8 @@ fn put_level(out: &mut [i32], at: usize, edges: &[u16], nodes: usize, level: Lev
     requires { ⌜ nodes ≤ maxNodes ⌝ }
     ensures { λ r. ⌜ Put (levelRow (edgesOf (now (edges .entry))) nodes level) at (now (out .entry)) (now (out .exit)) r ⌝ }
 {
-    let middle = put_edges(out, at, edges, level);
-    put_nodes(out, middle, edges, nodes, level)
+    let at = put_edges(out, at, edges, level);
+    put_nodes(out, at, edges, nodes, level)
 }
 
 // The clauses of `top` levels of a block behind `base`.
@@ -109,11 +109,11 @@ fn put_alone(out: &mut [i32], at: usize, w: usize, source: usize, variable: usiz
     ensures { λ r. ⌜ Put (aloneRow w source variable) at (now (out .entry)) (now (out .exit)) r ⌝ }
 {
     if w == source {
-        let end = put_on(out, at, variable);
-        return put_zero(out, end);
+        let at = put_on(out, at, variable);
+        return put_zero(out, at);
     }
-    let end = put_off(out, at, variable);
-    put_zero(out, end)
+    let at = put_off(out, at, variable);
+    put_zero(out, at)
 }
 
 // The clauses of level 0, whose R start at `first`.
@@ -137,10 +137,10 @@ fn put_end(out: &mut [i32], at: usize, a: usize, v: usize) -> usize
     requires { ⌜ Fits a × Fits v ⌝ }
     ensures { λ r. ⌜ Put (endRow a v) at (now (out .entry)) (now (out .exit)) r ⌝ }
 {
-    let second = put_gives(out, at, a, v);
-    let then_v = put_on(out, second, a);
-    let end = put_off(out, then_v, v);
-    put_zero(out, end)
+    let at = put_gives(out, at, a, v);
+    let at = put_on(out, at, a);
+    let at = put_off(out, at, v);
+    put_zero(out, at)
 }
 
 // One block behind `base`, of `top` levels.
@@ -161,7 +161,7 @@ pub fn put_block(
     let target = wide(atom.to);
     let variable = wide(atom.variable);
     let step = nodes + edge_count(edges);
-    let levels = put_start(out, at, nodes, source, base + 1);
-    let end = put_levels(out, levels, edges, nodes, base, top);
-    put_end(out, end, variable, base + 1 + top * step + target)
+    let at = put_start(out, at, nodes, source, base + 1);
+    let at = put_levels(out, at, edges, nodes, base, top);
+    put_end(out, at, variable, base + 1 + top * step + target)
 }

@@ -52,9 +52,9 @@ pub fn put_gives(out: &mut [i32], at: usize, a: usize, b: usize) -> usize
     requires { ⌜ Fits a × Fits b ⌝ }
     ensures { λ r. ⌜ Put (givesRow a b) at (now (out .entry)) (now (out .exit)) r ⌝ }
 {
-    let second = put_off(out, at, a);
-    let third = put_on(out, second, b);
-    put_zero(out, third)
+    let at = put_off(out, at, a);
+    let at = put_on(out, at, b);
+    put_zero(out, at)
 }
 
 // How many edges an edge table holds.
@@ -80,12 +80,12 @@ pub fn put_edge(
     let edge = edge_at(edges, k);
     let x = wide(edge.variable);
     let r = first + wide(edge.from);
-    let second = put_gives(out, at, t, x);
-    let third = put_gives(out, second, t, r);
-    let not_r = put_off(out, third, x);
-    let then_t = put_off(out, not_r, r);
-    let end = put_on(out, then_t, t);
-    put_zero(out, end)
+    let at = put_gives(out, at, t, x);
+    let at = put_gives(out, at, t, r);
+    let at = put_off(out, at, x);
+    let at = put_off(out, at, r);
+    let at = put_on(out, at, t);
+    put_zero(out, at)
 }
 
 // Whether edge k runs into w.
@@ -176,10 +176,10 @@ pub fn put_node(
     requires { ⌜ (length (edgesOf (now edges)) ≤ maxEdges) × Early first × Fits r × Fits q ⌝ }
     ensures { λ u. ⌜ Put (nodeRow (edgesOf (now (edges .entry))) first r q w) at (now (out .entry)) (now (out .exit)) u ⌝ }
 {
-    let second = put_off(out, at, q);
-    let third = put_on(out, second, r);
-    let end = put_literals(out, third, edges, first, w);
-    let kept = put_zero(out, end);
-    let intos = put_gives(out, kept, r, q);
-    put_intos(out, intos, edges, first, q, w)
+    let at = put_off(out, at, q);
+    let at = put_on(out, at, r);
+    let at = put_literals(out, at, edges, first, w);
+    let at = put_zero(out, at);
+    let at = put_gives(out, at, r, q);
+    put_intos(out, at, edges, first, q, w)
 }
