@@ -200,7 +200,7 @@ total-le size n most h [] = omega arith
 total-le size n most h (A ∷ As) = omega (arith, h (levels n A) (levels-le n A), total-le size n most h As)
 
 module _ {n m L : ℕ} (h : InLimits n m L) where
-  pub level-product : (d most : ℕ) → d ≤ most → L * d ≤ 63 * most
+  level-product : (d most : ℕ) → d ≤ most → L * d ≤ 63 * most
   level-product d most hd = le-trans (mul-le-mul-right {m = L} {n = 63} d (omega (arith, h .nodes, h .levels))) (mul-le-mul-left {m = d} {n = most} 63 hd)
 
   pub block-variables-most : blockVariables n m L ≤ mostBlockVariables

@@ -1,15 +1,10 @@
--- Every product stays in range.
+-- Every number on the way is at most that of the largest block.
 use mathlib.Core.Path.{refl}
-use Prim.Native.Nat.{_*_, _≤_}
 use native.Mathlib.Omega.{arith}
 use Rattle.plan.specs.Written.{blockVariables}
-use Rattle.encoding.proofs.Sizes.{level-product}
+use Rattle.encoding.proofs.Sizes.{block-variables-most}
 use Rattle.clauses.proofs.block_variables.Statement.{statement}
 use Rattle.clauses.proofs.block_variables.Tie as tie
-
-module _ (c : tie.Start) where
-  product : (c .args .top * c .args .nodes ≤ 63 * 64) × (c .args .top * c .args .edges ≤ 63 * 256)
-  product = (level-product (c .pre) _ 64 (c .pre .nodes), level-product (c .pre) _ 256 (c .pre .edges))
 
 pub block-variables-spec : {M : Type 1} → statement M
 unfolding blockVariables
@@ -17,7 +12,7 @@ block-variables-spec =
     tie.close
     (tie.spec
     (λ c. omega arith)
-    (λ c. omega (arith, product c))
-    (λ c. omega (arith, product c))
-    (λ c. omega (arith, product c))
+    (λ c. omega (arith, block-variables-most (c .pre)))
+    (λ c. omega (arith, block-variables-most (c .pre)))
+    (λ c. omega (arith, block-variables-most (c .pre)))
     (λ c. refl))
