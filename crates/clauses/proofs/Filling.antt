@@ -11,13 +11,13 @@ use lib.ListN.{length, length-append}
 use Rattle.plan.specs.Written.{each}
 use Rattle.plan.proofs.Walks.{le-or-lt}
 use Rattle.clauses.specs.Front.{Room, Put}
-use Rattle.clauses.proofs.Fronts.{rest, joined, put-none, put-as, put-length, put-then, room-rest}
+use Rattle.clauses.proofs.Fronts.{put-none, put-as, put-length, put-then, room-rest}
 
 -- k of m pieces are written
-pub record Filling (g : ℕ → List ℤ) (m : ℕ) (old out : List ℤ) (used k : ℕ) : Type 0 where
+pub record Filling (g : ℕ → List ℤ) (m at : ℕ) (old out : List ℤ) (end k : ℕ) : Type 0 where
   pub turns : k ≤ m
-  pub room : Room (each m g) old
-  pub put : Put (each k g) old out used
+  pub room : Room (each m g) at old
+  pub put : Put (each k g) at old out end
   pub same : length out ≡ length old
 
 each-upto : (g : ℕ → List ℤ) (k m : ℕ) → k ≤ m → length (each k g) ≤ length (each m g)
@@ -29,22 +29,20 @@ each-upto g k (suc m) l = go (each-upto g k m) (le-or-lt k m)
     go ih (inl h) = omega (arith, ih h, length-append (each m g) (g m))
     go ih (inr h) = let e : k ≡ suc m = omega arith in subst (λ x. length (each x g) ≤ length (each m g ++ g m)) (sym e) (omega arith)
 
-pub filling-start : (g : ℕ → List ℤ) (m : ℕ) (old : List ℤ) → Room (each m g) old → Filling g m old old 0 0
+pub filling-start : {g : ℕ → List ℤ} {m at : ℕ} {old : List ℤ} → Room (each m g) at old → Filling g m at old old at 0
 unfolding each
-filling-start g m old h = record { turns = omega arith; room = h; put = put-none old; same = refl }
+filling-start {at = at} {old = old} h = record { turns = omega arith; room = h; put = put-none at old (omega (arith, h .fits)); same = refl }
 
-module _ {g : ℕ → List ℤ} {m : ℕ} {old out : List ℤ} {used k : ℕ} (f : Filling g m old out used k) where
-  -- there is room for the next piece in the rest
-  pub filling-room : k < m → Room (g k) (rest used out)
+module _ {g : ℕ → List ℤ} {m at : ℕ} {old out : List ℤ} {end k : ℕ} (f : Filling g m at old out end k) where
+  -- there is room for the next piece
+  pub filling-room : k < m → Room (g k) end out
   unfolding each
   filling-room l = room-rest (each k g) (g k) (record { fits = omega (arith, f .room .fits, each-upto g (suc k) m l) }) (f .put)
 
   -- the next piece is written there
-  pub filling-turn : k < m → {t : List ℤ} {more : ℕ} → Put (g k) (rest used out) t more → Filling g m old (joined used out t) (used + more) (k + 1)
+  pub filling-turn : k < m → {new : List ℤ} {next : ℕ} → Put (g k) end out new next → Filling g m at old new next (k + 1)
   unfolding each
-  filling-turn l p =
-      let q = put-then (f .put) p in
-      record { turns = omega arith; room = f .room; put = rw add-one q; same = put-length q }
+  filling-turn l p = let q = put-then (f .put) p in record { turns = omega arith; room = f .room; put = rw add-one q; same = put-length q }
 
-  pub filling-end : m ≤ k → Put (each m g) old out used
+  pub filling-end : m ≤ k → Put (each m g) at old out end
   filling-end l = let e : k ≡ m = omega (arith, f .turns) in put-as (ap (λ x. each x g) e) (f .put)

@@ -2,8 +2,6 @@ pub mod Fronts
 pub mod Filling
 pub mod Numbers
 pub mod Tabled
-pub mod Choices
 pub mod Rows
 pub mod Stepping
 pub mod Whole
-pub mod EndToEnd

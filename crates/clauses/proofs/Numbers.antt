@@ -1,25 +1,26 @@
--- A variable's number below 2 ^ 31 as an i32, and its opposite; a literal of the file as an i32.
+-- A variable's number as an i32, and its opposite; a literal of the file as an i32.
 -- Assumes nothing.
 use mathlib.Core.Path.{_≡_, sym, _∙_, ap, subst}
-use Prim.Native.Nat.{ℕ, zero, suc, _<_}
+use Prim.Native.Nat.{ℕ, zero, suc}
 use native.Mathlib.Omega.{arith}
 use lib.IntN.{ℤ, pos, negℤ, _-ℤ_, +ℤ-idl}
 use mir.Syntax.{w16, w32}
 use mir.Val.{SFits, toZ, ofZ}
 use mir.Facts.{toZ-ofZ}
+use Rattle.clauses.specs.Rows.{Fits}
 
-pub kept-on : (v : ℕ) → v < 2147483648 → toZ w32 v ≡ pos v
+pub kept-on : (v : ℕ) → Fits v → toZ w32 v ≡ pos v
 kept-on v l = toZ-ofZ {w = w32} {z = pos v} (record { sfits = omega arith })
 
-pub off-fits : (v : ℕ) → v < 2147483648 → SFits w32 (negℤ (pos v))
+pub off-fits : (v : ℕ) → Fits v → SFits w32 (negℤ (pos v))
 off-fits zero l = record { sfits = omega arith }
 off-fits (suc v) l = record { sfits = omega arith }
 
-pub kept-off : (v : ℕ) → v < 2147483648 → toZ w32 (ofZ w32 (negℤ (pos v))) ≡ negℤ (pos v)
+pub kept-off : (v : ℕ) → Fits v → toZ w32 (ofZ w32 (negℤ (pos v))) ≡ negℤ (pos v)
 kept-off v l = toZ-ofZ (off-fits v l)
 
 -- the code's -(v as i32)
-pub minus-is : (v : ℕ) → v < 2147483648 → toZ w32 0 -ℤ toZ w32 v ≡ negℤ (pos v)
+pub minus-is : (v : ℕ) → Fits v → toZ w32 0 -ℤ toZ w32 v ≡ negℤ (pos v)
 minus-is v l = ap (λ z. toZ w32 0 -ℤ z) (kept-on v l) ∙ +ℤ-idl (negℤ (pos v))
 
 -- an i16 as an i32

@@ -3,16 +3,16 @@
 use mathlib.Core.Path.{_≡_, refl, sym, _∙_, ap, ap₂, fun-ext}
 use mathlib.Core.List.{List, [], _∷_, _++_, append-assoc}
 use mathlib.Core.Bool.{Bool, true, false, cond}
-use Prim.Native.Nat.{ℕ, suc, _+_, _*_, _<_}
+use Prim.Native.Nat.{ℕ, suc, _+_, _<_}
 use native.Mathlib.Omega.{arith}
 use native.Mathlib.Nat.{mul-le-mul-right}
 use lib.IntN.{ℤ, pos}
 use lib.Dec.{eqb}
-use lib.ListN.{length}
+use lib.ListN.{length, length-append}
 use Rattle.plan.specs.Meaning.{Edge, Atom, edge, on, off}
 use Rattle.plan.specs.Written.{each, flat, R, U, into, startClauses, edgeClauses, nodeClauses, levelClauses, endClauses, block, levels, atomBlock}
 use Rattle.encoding.proofs.Each.{flat-append, flat-each}
-use Rattle.clauses.specs.Rows.{givesRow, bothRow, andRow, edgeRow, literalRow, intoRow, aloneRow, endRow, edgesRow, literalsRow, intosRow, reachedRow, nodeRow, nodesRow, levelRow, firstAt, levelFrom, levelsRow, startRow, blockRow, LowBlock}
+use Rattle.clauses.specs.Rows.{Early, givesRow, andRow, edgeRow, literalRow, intoRow, aloneRow, endRow, edgesRow, literalsRow, intosRow, nodeRow, nodesRow, levelRow, firstAt, levelFrom, levelsRow, startRow, blockRow, LowBlock}
 
 each-same : {A : Type 0} (n : ℕ) (f g : ℕ → List A) → ((k : ℕ) → f k ≡ g k) → each n f ≡ each n g
 each-same n f g e = ap (each n) (fun-ext e)
@@ -30,7 +30,7 @@ nodeOver es t r q w =
     ∷ each (length es) (λ k. cond (eqb w (edge es k .to)) ((off (t k) ∷ on q ∷ []) ∷ []) [])
 
 node-row : (es : List Edge) (first r q w : ℕ) → flat (nodeOver es (λ k. first + k) r q w) ≡ nodeRow es first r q w
-unfolding flat nodeRow reachedRow literalsRow intosRow literalRow intoRow givesRow
+unfolding flat nodeRow literalsRow intosRow literalRow intoRow givesRow
 node-row es first r q w =
     let two = off q ∷ on r ∷ [] in
     let literals = each (length es) (λ k. cond (eqb w (edge es k .to)) (on (first + k) ∷ []) []) in
@@ -39,7 +39,15 @@ node-row es first r q w =
     ap (λ l. (two ++ literals) ++ (pos 0 ∷ (gives ++ l)))
     (flat-each (length es) (λ k. cond (eqb w (edge es k .to)) ((off (first + k) ∷ on q ∷ []) ∷ []) [])
     ∙ each-same (length es) _ _ (λ k. flat-if (eqb w (edge es k .to)) (off (first + k) ∷ on q ∷ [])))
-    ∙ sym (append-assoc ((two ++ literals) ++ (pos 0 ∷ [])) gives intos ∙ append-assoc (two ++ literals) (pos 0 ∷ []) (gives ++ intos))
+    ∙ sym (append-assoc (two ++ literals) (pos 0 ∷ gives) intos)
+
+-- whatever the operands
+pub node-size : (es : List Edge) (first r q w : ℕ) → length (nodeRow es first r q w) ≡ 6 + (length (literalsRow es first w) + length (intosRow es first q w))
+unfolding nodeRow givesRow
+node-size es first r q w =
+    let clause = off q ∷ on r ∷ literalsRow es first w in
+    let gives = pos 0 ∷ givesRow r q in
+    omega (arith, length-append (clause ++ gives) (intosRow es first q w), length-append clause gives)
 
 module _ (n : ℕ) (es : List Edge) (base : ℕ) where
   abbrev first : ℕ → ℕ
@@ -62,7 +70,7 @@ module _ (n : ℕ) (es : List Edge) (base : ℕ) where
   start-is s = flat-each n _ ∙ each-same n _ _ (λ w. ap (λ v. cond (eqb w s) (on v) (off v) ∷ pos 0 ∷ []) (R-is 0 w ∙ omega arith))
 
   edge-is : (i k : ℕ) → flat (edgeClauses n es base i k) ≡ edgeRow (edge es k) (first i + n + k) (first i)
-  unfolding flat edgeClauses edgeRow andRow givesRow bothRow
+  unfolding flat edgeClauses edgeRow andRow givesRow
   edge-is i k = ap₂ (λ t r. andRow t (edge es k .variable) r) (U-is i k) (R-is i (edge es k .from))
 
   node-is : (i w : ℕ) → flat (nodeClauses n es base i w) ≡ nodeRow es (first i + n) (first i + w) (first i + (n + length es) + w) w
@@ -79,8 +87,8 @@ module _ (n : ℕ) (es : List Edge) (base : ℕ) where
       ∙ ap₂ _++_ (flat-each (length es) (edgeClauses n es base i) ∙ each-same (length es) _ _ (edge-is i)) (flat-each n (nodeClauses n es base i) ∙ each-same n _ _ (node-is i))
 
   end-is : (L t a : ℕ) → flat (endClauses n es base L t a) ≡ endRow a (first L + t)
-  unfolding flat endClauses endRow
-  end-is L t a = ap (λ v. off a ∷ on v ∷ pos 0 ∷ on a ∷ off v ∷ pos 0 ∷ []) (R-is L t)
+  unfolding flat endClauses endRow givesRow
+  end-is L t a = ap (endRow a) (R-is L t)
 
   pub block-is : (L s t a : ℕ) → flat (block n es base L s t a) ≡ blockRow n es base L s t a
   unfolding block blockRow levelsRow
@@ -95,21 +103,6 @@ module _ (n : ℕ) (es : List Edge) (base : ℕ) where
   unfolding atomBlock
   atom-is A = block-is (levels n A) (A .from) (A .to) (A .variable)
 
--- the code's numbers of a level, which it adds up, are those of level i
-module _ (es : List Edge) (n base i now step : ℕ) (at : now ≡ firstAt es n base i) (by : step ≡ n + length es) where
-  pub level-row : levelRow es n (record { nodes = now; edges = now + n; next = now + step }) ≡ levelRow es n (levelFrom es n (firstAt es n base i))
-  level-row = ap₂ (λ f d. levelRow es n (record { nodes = f; edges = f + n; next = f + d })) at by
-
-  pub level-low : (top : ℕ) → LowBlock es n base top → i < top → now + step < 1073741824
-  level-low top low l = omega (arith, low .last, mul-le-mul-right {m = suc i} {n = top} (n + length es) l)
-
--- the pieces of a block, with the numbers as the code reads and adds them
-pub block-row : (n : ℕ) (es : List Edge) (base top step s t a s′ t′ a′ : ℕ) → step ≡ n + length es → s ≡ s′ → t ≡ t′ → a ≡ a′
-    → (startRow n s (base + 1) ++ levelsRow es n base top) ++ endRow a (base + 1 + top * step + t) ≡ blockRow n es base top s′ t′ a′
-unfolding blockRow
-block-row n es base top step s t a s′ t′ a′ e p q r =
-    ap₂ _++_ (ap (λ x. startRow n x (base + 1) ++ levelsRow es n base top) p) (ap₂ endRow r (ap₂ (λ d x. base + 1 + top * d + x) e q))
-
--- the last level's numbers are low
-pub end-low : {n base top m : ℕ} {es : List Edge} → LowBlock es n base top → m ≡ length es → base + 1 + top * (n + m) < 1073741824
-end-low {n} {base} {top} {m} {es} low e = omega (arith, low .last, ap (λ k. top * (n + k)) e)
+-- the numbers behind level i are low
+pub level-low : {es : List Edge} {n base top i : ℕ} → LowBlock es n base top → i < top → Early (firstAt es n base i + (n + length es))
+level-low {es} {n} {base} {top} {i} low l = omega (arith, low .last, mul-le-mul-right {m = suc i} {n = top} (n + length es) l)

@@ -10,19 +10,26 @@ use lib.ListN.{length, take, length-take}
 use lib.Seq.{take-all}
 use Rattle.plan.specs.Meaning.{Edge, Atom, atom}
 use Rattle.plan.specs.Written.{each, flat, levels, levelsOf, blockVariables, blockClauses, blockNumbers, atomBlock, after, blocks, last}
-use Rattle.encoding.specs.Counts.{total}
+use Rattle.encoding.specs.Counts.{total, InLimits}
 use Rattle.encoding.proofs.Each.{flat-append}
 use Rattle.encoding.proofs.Blocks.{last-ge}
-use Rattle.encoding.proofs.Sizes.{levels-le, total-le, block-variables-most, block-clauses-most, block-numbers-most}
+use Rattle.encoding.proofs.Sizes.{levels-le, last-is, blocks-most}
 use Rattle.clauses.specs.declared.Counts.{Counts}
-use Rattle.clauses.specs.Rows.{blockRow, LowBlock, LowBlocks}
-use Rattle.clauses.specs.Writing.{Added, AddedOne, Few, InLimits, Countable}
+use Rattle.clauses.specs.Rows.{Early, blockRow, LowBlock, LowBlocks}
+use Rattle.clauses.specs.Writing.{Added, AddedOne, Few, Countable}
 use Rattle.clauses.proofs.Rows.{atom-is}
 
 each-first : {A : Type 0} (n : ℕ) (f : ℕ → List A) → each (suc n) f ≡ f 0 ++ each n (λ i. f (suc i))
 unfolding each
 each-first zero f = sym (append-nil (f 0))
 each-first (suc n) f = ap (λ l. l ++ f (suc n)) (each-first n f) ∙ append-assoc (f 0) (each n (λ i. f (suc i))) (f (suc n))
+
+-- a sum over the atoms up to j
+pub total-next : (size : ℕ → ℕ) (n : ℕ) (As : List Atom) (j : ℕ) → j < length As → total size n (take (j + 1) As) ≡ total size n (take j As) + size (levels n (atom As j))
+unfolding total
+total-next size n [] j l = let z : ⊥ = omega arith in absurd z
+total-next size n (A ∷ As) zero l = omega arith
+total-next size n (A ∷ As) (suc j) l = rw add-one (omega (arith, ap (λ k. total size n (take k As)) (sym (add-one j)) ∙ total-next size n As j (omega arith)))
 
 module _ (n : ℕ) (es : List Edge) where
   -- the last variable before atom j's block
@@ -42,10 +49,7 @@ module _ (n : ℕ) (es : List Edge) where
       ∙ sym (each-first (length As) (piece base (A ∷ As)))
 
   pub before-next : (base : ℕ) (As : List Atom) (j : ℕ) → j < length As → before base As (j + 1) ≡ after n es (before base As j) (atom As j)
-  unfolding last
-  before-next base [] j l = let z : ⊥ = omega arith in absurd z
-  before-next base (A ∷ As) zero l = refl
-  before-next base (A ∷ As) (suc j) l = rw add-one (ap (last n es (after n es base A)) (ap (λ k. take k As) (sym (add-one j))) ∙ before-next (after n es base A) As j (omega arith))
+  before-next base As j l = omega (arith, last-is n es base (take (j + 1) As), last-is n es base (take j As), total-next (blockVariables n (length es)) n As j l)
 
   pub before-le : (base : ℕ) (As : List Atom) (j : ℕ) → before base As j ≤ last n es base As
   unfolding last
@@ -53,13 +57,6 @@ module _ (n : ℕ) (es : List Edge) where
   before-le base [] (suc j) = omega arith
   before-le base (A ∷ As) zero = omega (arith, last-ge n es (after n es base A) As)
   before-le base (A ∷ As) (suc j) = before-le (after n es base A) As j
-
--- a sum over the atoms up to j
-pub total-next : (size : ℕ → ℕ) (n : ℕ) (As : List Atom) (j : ℕ) → j < length As → total size n (take (j + 1) As) ≡ total size n (take j As) + size (levels n (atom As j))
-unfolding total
-total-next size n [] j l = let z : ⊥ = omega arith in absurd z
-total-next size n (A ∷ As) zero l = omega arith
-total-next size n (A ∷ As) (suc j) l = rw add-one (omega (arith, ap (λ k. total size n (take k As)) (sym (add-one j)) ∙ total-next size n As j (omega arith)))
 
 -- an atom's levels, by its kind
 module _ (n : ℕ) (A : Atom) where
@@ -101,7 +98,7 @@ module _ {n : ℕ} {es : List Edge} {base : ℕ} {As : List Atom} {j b top : ℕ
       ap₂ (λ x L. x + blockVariables n (length es) L) (t .at) (t .levels-is ∙ ap (levels n) (t .is))
       ∙ sym (before-next n es base As j (t .inside))
 
-  pub next-last : b + blockVariables n (length es) top < 1000000000
+  pub next-last : Early (b + blockVariables n (length es) top)
   next-last = omega (arith, next-before, before-le n es base As (j + 1), t .low .last)
 
   pub next-low : LowBlock es n b top
@@ -119,12 +116,11 @@ module _ {n : ℕ} {es : List Edge} {As : List Atom} {own counts : Counts} (can 
 
   pub few : Few counts
   few =
-      let m = length es in
-      let k = length-take j As in
+      let b = blocks-most n (length es) (can .nodes) (can .edges) (take j As) (omega (arith, length-take j As, can .atoms)) in
       record {
-        variables = omega (arith, k, can .atoms, can .variables, added .variables, total-le (blockVariables n m) n 20224 (block-variables-most n m (can .nodes) (can .edges)) (take j As));
-        clauses = omega (arith, k, can .atoms, can .clauses, added .clauses, total-le (blockClauses n m) n 72642 (block-clauses-most n m (can .nodes) (can .edges)) (take j As));
-        numbers = omega (arith, k, can .atoms, can .numbers, added .numbers, total-le (blockNumbers n m) n 250118 (block-numbers-most n m (can .nodes) (can .edges)) (take j As));
+        variables = omega (arith, can .variables, added .variables, b .variables);
+        clauses = omega (arith, can .clauses, added .clauses, b .clauses);
+        numbers = omega (arith, can .numbers, added .numbers, b .numbers);
       }
 
   pub added-next : {more : Counts} → AddedOne n (length es) top counts more → Added n (length es) (take (j + 1) As) own more

@@ -17,7 +17,7 @@ use Rattle.clauses.specs.declared.Counts.{Counts}
 use Rattle.clauses.specs.Front.{Room, Put}
 use Rattle.clauses.specs.Rows.{LowBlocks}
 use Rattle.clauses.specs.Writing.{WrittenOut, TooShort, Added, Countable}
-use Rattle.clauses.proofs.Fronts.{rest, joined, put-as, put-then}
+use Rattle.clauses.proofs.Fronts.{put-as, put-then}
 
 module _ {p : Plan} {edges atoms : List ℕ} {clauses : List ℤ} (lent : Lent p edges atoms clauses)
     {nodes variables : ℕ} (n-is : nodes ≡ p .nodes) (v-is : variables ≡ p .variables) where
@@ -69,13 +69,13 @@ module _ {p : Plan} {edges atoms : List ℕ} {clauses : List ℤ} (lent : Lent p
     numbers-are : counts .numbers ≡ length (flat (written φ))
     numbers-are = omega (arith, at-nodes .numbers, table-length, counted φ (lent .ranged) .numbers)
 
-    pub room : {out : List ℤ} → counts .numbers ≤ length out → Room (clauses ++ behind) out
+    pub room : {out : List ℤ} → counts .numbers ≤ length out → Room (clauses ++ behind) 0 out
     room h = record { fits = omega (arith, numbers-are, ap length whole-is) }
 
     pub too-short : {out : List ℤ} → length out < counts .numbers → TooShort φ out out (counts .numbers)
     too-short h = record { numbers = numbers-are; room = h; kept = refl }
 
-    pub written-out : {old mid new : List ℤ} {a b : ℕ} → counts .numbers ≤ length old → Put clauses old mid a → Put behind (rest a mid) new b → WrittenOut φ old (joined a mid new) counts
+    pub written-out : {old mid new : List ℤ} {a b : ℕ} → counts .numbers ≤ length old → Put clauses 0 old mid a → Put behind a mid new b → WrittenOut φ old new counts
     written-out h first second =
         let c = counted φ (lent .ranged) in
         record {

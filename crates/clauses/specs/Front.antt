@@ -1,17 +1,18 @@
--- Writing at the front of a lent slice.
+-- Writing into a lent slice from a place on.
 -- Assumes nothing.
 use mathlib.Core.Path.{_≡_}
 use mathlib.Core.List.{List, _++_}
-use Prim.Native.Nat.{ℕ, _≤_}
+use Prim.Native.Nat.{ℕ, _+_, _≤_}
 use lib.IntN.{ℤ}
-use lib.ListN.{length, drop}
+use lib.ListN.{length, take}
+use Rattle.plan.specs.Buffers.{Wrote}
 
--- There is room for the numbers ws.
-pub record Room (ws before : List ℤ) : Type 0 where
-  pub fits : length ws ≤ length before
+-- There is room for the numbers ws from the place at on.
+pub record Room (ws : List ℤ) (at : ℕ) (before : List ℤ) : Type 0 where
+  pub fits : at + length ws ≤ length before
 
--- The numbers ws stand at the front, the places behind them keep their values, and `used` is how many they are.
-pub record Put (ws before after : List ℤ) (used : ℕ) : Type 0 where
-  pub count : used ≡ length ws
-  pub inside : used ≤ length before
-  pub is : after ≡ ws ++ drop (length ws) before
+-- The numbers ws stand from the place at on, every other place keeps its value, and `end` is the place behind them.
+pub record Put (ws : List ℤ) (at : ℕ) (before after : List ℤ) (end : ℕ) : Type 0 where
+  pub count : end ≡ at + length ws
+  pub inside : end ≤ length before
+  pub is : Wrote (take at before ++ ws) before after

@@ -11,17 +11,21 @@ use Rattle.plan.specs.Written.{each, last}
 use Rattle.plan.specs.Ranged.{maxNodes, maxEdges}
 use Rattle.clauses.specs.declared.block.Level.{Level}
 
+-- The literals of a variable below 2 ^ 31 fit 32 bits.
+abbrev pub Fits : ℕ → Type 0
+Fits v = v < 2147483648
+
+-- From a number below 2 ^ 30 a level's nodes and edges can be counted on, and their literals still fit.
+abbrev pub Early : ℕ → Type 0
+Early v = v < 1073741824
+
 -- (-a, b)
 unfoldable pub givesRow : ℕ → ℕ → List ℤ
 givesRow a b = off a ∷ on b ∷ pos 0 ∷ []
 
--- (-a, -b, c)
-unfoldable pub bothRow : ℕ → ℕ → ℕ → List ℤ
-bothRow a b c = off a ∷ off b ∷ on c ∷ pos 0 ∷ []
-
 -- (-t, x), (-t, r), (-x, -r, t)
 unfoldable pub andRow : ℕ → ℕ → ℕ → List ℤ
-andRow t x r = (givesRow t x ++ givesRow t r) ++ bothRow x r t
+andRow t x r = givesRow t x ++ givesRow t r ++ (off x ∷ off r ∷ on t ∷ pos 0 ∷ [])
 
 -- an edge, whose T is t, on a level whose first R is first
 unfoldable pub edgeRow : Edge → ℕ → ℕ → List ℤ
@@ -41,7 +45,7 @@ aloneRow w s v = cond (eqb w s) (on v) (off v) ∷ pos 0 ∷ []
 
 -- (-a, v), (a, -v)
 unfoldable pub endRow : ℕ → ℕ → List ℤ
-endRow a v = off a ∷ on v ∷ pos 0 ∷ on a ∷ off v ∷ pos 0 ∷ []
+endRow a v = givesRow a v ++ (on a ∷ off v ∷ pos 0 ∷ [])
 
 module _ (es : List Edge) where
   unfoldable pub edgesRow : Level → List ℤ
@@ -53,13 +57,9 @@ module _ (es : List Edge) where
   unfoldable pub intosRow : ℕ → ℕ → ℕ → List ℤ
   intosRow first q w = each (length es) (λ k. intoRow w (edge es k) (first + k) q)
 
-  -- (-q, r, the T of each edge into w)
-  unfoldable pub reachedRow : ℕ → ℕ → ℕ → ℕ → List ℤ
-  reachedRow first r q w = ((off q ∷ on r ∷ []) ++ literalsRow first w) ++ (pos 0 ∷ [])
-
-  -- the clauses of node w, whose R is r on this level and q on the next
+  -- the clauses of node w, whose R is r on this level and q on the next: (-q, r, the T of each edge into w), (-r, q), and (-T, q) of each
   unfoldable pub nodeRow : ℕ → ℕ → ℕ → ℕ → List ℤ
-  nodeRow first r q w = (reachedRow first r q w ++ givesRow r q) ++ intosRow first q w
+  nodeRow first r q w = (((off q ∷ on r ∷ []) ++ literalsRow first w) ++ (pos 0 ∷ givesRow r q)) ++ intosRow first q w
 
   unfoldable pub nodesRow : ℕ → Level → List ℤ
   nodesRow n v = each n (λ w. nodeRow (v .edges) (v .nodes + w) (v .next + w) w)
@@ -77,23 +77,23 @@ module _ (es : List Edge) where
   unfoldable pub levelsRow : ℕ → ℕ → ℕ → List ℤ
   levelsRow n base top = each top (λ i. levelRow n (levelFrom n (firstAt n base i)))
 
-  -- numbers that leave room for 32-bit literals
+  -- numbers that leave room for 32-bit literals: those of one level, of a block, and of all blocks
   pub record Low (v : Level) : Type 0 where
     pub few : length es ≤ maxEdges
-    pub nodes : v .nodes < 1073741824
-    pub edges : v .edges < 1073741824
-    pub next : v .next < 1073741824
+    pub nodes : Early (v .nodes)
+    pub edges : Early (v .edges)
+    pub next : Early (v .next)
 
   pub record LowBlock (n base top : ℕ) : Type 0 where
     pub few : length es ≤ maxEdges
     pub nodes : n ≤ maxNodes
-    pub last : firstAt n base top < 1073741824
+    pub last : Early (firstAt n base top)
 
   pub record LowBlocks (n base : ℕ) (As : List Atom) : Type 0 where
     pub few : length es ≤ maxEdges
     pub node : 1 ≤ n
     pub nodes : n ≤ maxNodes
-    pub last : last n es base As < 1000000000
+    pub last : Early (last n es base As)
 
 unfoldable pub startRow : ℕ → ℕ → ℕ → List ℤ
 startRow n s first = each n (λ w. aloneRow w s (first + w))

@@ -1,14 +1,15 @@
 -- What writing the clauses answers, and what it leaves in the buffer. Document 01, "Writing out clauses" and refusal 12.
 -- Assumes nothing.
 use mathlib.Core.Path.{_≡_}
-use mathlib.Core.List.{List, _++_}
-use Prim.Native.Nat.{ℕ, _+_, _-_, _≤_, _<_}
+use mathlib.Core.List.{List}
+use Prim.Native.Nat.{ℕ, _+_, _≤_, _<_}
 use lib.IntN.{ℤ}
-use lib.ListN.{length, drop}
+use lib.ListN.{length}
+use Rattle.plan.specs.Buffers.{Kept, Wrote}
 use Rattle.plan.specs.Meaning.{Edge, Atom, PlanFile}
 use Rattle.plan.specs.Ranged.{maxNodes, maxVariables, maxEdges, maxAtoms, maxClauses, maxLiterals}
 use Rattle.plan.specs.Written.{flat, blockVariables, blockClauses, blockNumbers, written, lastVariable}
-use Rattle.encoding.specs.Counts.{total}
+use Rattle.encoding.specs.Counts.{total, mostVariables, mostClauses, mostNumbers}
 use Rattle.clauses.specs.declared.Counts.{Counts}
 use Rattle.clauses.specs.declared.Writing.{Writing}
 use Rattle.clauses.specs.declared.Writing.the-variants.{Written, Short}
@@ -19,13 +20,13 @@ pub record WrittenOut (φ : PlanFile) (before after : List ℤ) (counts : Counts
   pub clauses : counts .clauses ≡ length (written φ)
   pub numbers : counts .numbers ≡ length (flat (written φ))
   pub room : length (flat (written φ)) ≤ length before
-  pub is : after ≡ flat (written φ) ++ drop (length (flat (written φ))) before
+  pub is : Wrote (flat (written φ)) before after
 
 -- "output buffer too short for the exact answer: length needed"
 pub record TooShort (φ : PlanFile) (before after : List ℤ) (needed : ℕ) : Type 0 where
   pub numbers : needed ≡ length (flat (written φ))
   pub room : length before < needed
-  pub kept : after ≡ before
+  pub kept : Kept before after
 
 abbrev pub Writes : PlanFile → List ℤ → List ℤ → Writing → Type 0
 Writes φ before after (Written counts) = WrittenOut φ before after counts
@@ -45,15 +46,9 @@ pub record AddedOne (n m L : ℕ) (from to : Counts) : Type 0 where
 
 -- Counts to which the largest block can still be added.
 pub record Few (counts : Counts) : Type 0 where
-  pub variables : counts .variables ≤ 1294848
-  pub clauses : counts .clauses ≤ 4650112
-  pub numbers : counts .numbers ≤ 16012672
-
--- A block of L levels within the limits.
-pub record InLimits (n m L : ℕ) : Type 0 where
-  pub nodes : n ≤ maxNodes
-  pub edges : m ≤ maxEdges
-  pub levels : L ≤ n - 1
+  pub variables : counts .variables ≤ mostVariables
+  pub clauses : counts .clauses ≤ mostClauses
+  pub numbers : counts .numbers ≤ mostNumbers
 
 -- A file's own counts and tables within the limits.
 pub record Countable (n : ℕ) (es : List Edge) (As : List Atom) (own : Counts) : Type 0 where

@@ -15,7 +15,8 @@ ghost use Rattle.plan.specs.Tables.{edgesOf, atomsOf, atomOf, planOf, Lent};
 ghost use Rattle.plan.specs.Written.{flat, levels, blockVariables, blockClauses, blockNumbers, blocks};
 ghost use Rattle.clauses.specs.Front.{Room, Put};
 ghost use Rattle.clauses.specs.Rows.{LowBlocks};
-ghost use Rattle.clauses.specs.Writing.{Writes, Added, AddedOne, Few, InLimits, Countable};
+ghost use Rattle.encoding.specs.Counts.{InLimits};
+ghost use Rattle.clauses.specs.Writing.{Writes, Added, AddedOne, Few, Countable};
 
 // How much is written.
 pub struct Counts {
@@ -78,26 +79,32 @@ fn block_numbers(nodes: usize, edges: usize, top: usize) -> usize
     2 * nodes + top * (14 * edges + 6 * nodes) + 6
 }
 
-// The blocks of the atoms, each into the rest of the buffer behind the one before it.
-fn put_blocks(out: &mut [i32], edges: &[u16], atoms: &[u16], nodes: usize, base: usize) -> usize
-    requires { ⌜ Room (flat (blocks nodes (edgesOf (now edges)) base (atomsOf (now atoms)))) (now out) ⌝ }
+// The blocks of the atoms, each behind the one before it.
+fn put_blocks(
+    out: &mut [i32],
+    at: usize,
+    edges: &[u16],
+    atoms: &[u16],
+    nodes: usize,
+    base: usize,
+) -> usize
+    requires { ⌜ Room (flat (blocks nodes (edgesOf (now edges)) base (atomsOf (now atoms)))) at (now out) ⌝ }
     requires { ⌜ LowBlocks (edgesOf (now edges)) nodes base (atomsOf (now atoms)) ⌝ }
-    ensures { λ r. ⌜ Put (flat (blocks nodes (edgesOf (now (edges .entry))) base (atomsOf (now (atoms .entry))))) (now (out .entry)) (now (out .exit)) r ⌝ }
+    ensures { λ r. ⌜ Put (flat (blocks nodes (edgesOf (now (edges .entry))) base (atomsOf (now (atoms .entry))))) at (now (out .entry)) (now (out .exit)) r ⌝ }
 {
     let edge_number = edge_count(edges);
     let atom_number = atom_count(atoms);
     let mut last = base;
-    let mut used: usize = 0;
+    let mut end = at;
     let mut j = 0;
     while j < atom_number {
         let atom = atom_at(atoms, j);
         let top = levels_of(nodes, atom);
-        let more = put_block(&mut out[used..], edges, nodes, last, top, atom);
-        used += more;
+        end = put_block(out, end, edges, nodes, last, top, atom);
         last += block_variables(nodes, edge_number, top);
         j += 1;
     }
-    used
+    end
 }
 
 // The counts with one block more.
@@ -136,8 +143,8 @@ fn with_blocks(own: Counts, edges: &[u16], atoms: &[u16], nodes: usize) -> Count
 
 // The file's own clauses.
 fn put_own(out: &mut [i32], clauses: &[i16]) -> usize
-    requires { ⌜ Room (now clauses) (now out) ⌝ }
-    ensures { λ r. ⌜ Put (now (clauses .entry)) (now (out .entry)) (now (out .exit)) r ⌝ }
+    requires { ⌜ Room (now clauses) 0 (now out) ⌝ }
+    ensures { λ r. ⌜ Put (now (clauses .entry)) 0 (now (out .entry)) (now (out .exit)) r ⌝ }
 {
     let mut i = 0;
     while i < clauses.len() {
@@ -172,7 +179,7 @@ pub fn write_clauses(
     if out.len() < needed {
         return Writing::Short(needed);
     }
-    let used = put_own(out, clauses);
-    put_blocks(&mut out[used..], edges, atoms, nodes, variables);
+    let end = put_own(out, clauses);
+    put_blocks(out, end, edges, atoms, nodes, variables);
     Writing::Written(counts)
 }

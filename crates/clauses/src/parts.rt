@@ -1,83 +1,60 @@
-// The clauses of one edge and of one node, of which a level is made.
+// The clauses of one edge and of one node, of which a level is made. Every writer writes from the place `at` on and hands back the place
+// behind what it wrote.
 use plan::Edge;
 use plan::edge_at;
 use plan::wide;
 ghost use mathlib.Core.Path.{_≡_};
 ghost use mathlib.Core.List.{[], _∷_};
 ghost use Prim.Native.Nat.{_<_, _≤_};
+ghost use lib.Dec.{eqb};
 ghost use lib.IntN.{pos};
 ghost use lib.ListN.{length};
-ghost use Rattle.plan.specs.Meaning.{on, off};
-ghost use Rattle.plan.specs.Tables.{edgesOf, edgeOf};
+ghost use Rattle.plan.specs.Meaning.{edge, on, off};
+ghost use Rattle.plan.specs.Ranged.{maxEdges};
+ghost use Rattle.plan.specs.Tables.{edgesOf};
 ghost use Rattle.clauses.specs.Front.{Room, Put};
-ghost use Rattle.clauses.specs.Rows.{givesRow, bothRow, andRow, edgeRow, literalRow, intoRow, literalsRow, intosRow, reachedRow, nodeRow};
+ghost use Rattle.clauses.specs.Rows.{Fits, Early, givesRow, edgeRow, literalRow, intoRow, literalsRow, intosRow, nodeRow};
 
-pub fn on(variable: usize) -> i32
-    requires { ⌜ variable < 2147483648 ⌝ }
-    ensures { λ r. ⌜ r ≡ on variable ⌝ }
+// The variable's literal.
+pub fn put_on(out: &mut [i32], at: usize, variable: usize) -> usize
+    requires { ⌜ Room (on variable ∷ []) at (now out) ⌝ }
+    requires { ⌜ Fits variable ⌝ }
+    ensures { λ r. ⌜ Put (on variable ∷ []) at (now (out .entry)) (now (out .exit)) r ⌝ }
 {
-    variable as i32
+    let literal = variable as i32;
+    out[at] = literal;
+    at + 1
 }
 
-pub fn off(variable: usize) -> i32
-    requires { ⌜ variable < 2147483648 ⌝ }
-    ensures { λ r. ⌜ r ≡ off variable ⌝ }
+// The opposite of the variable's literal.
+pub fn put_off(out: &mut [i32], at: usize, variable: usize) -> usize
+    requires { ⌜ Room (off variable ∷ []) at (now out) ⌝ }
+    requires { ⌜ Fits variable ⌝ }
+    ensures { λ r. ⌜ Put (off variable ∷ []) at (now (out .entry)) (now (out .exit)) r ⌝ }
 {
-    -(variable as i32)
+    let literal = -(variable as i32);
+    out[at] = literal;
+    at + 1
 }
 
-// The clause (-a, b). Every writer works at the front of what it is lent, and hands back how many numbers it wrote.
-fn put_gives(out: &mut [i32], a: usize, b: usize) -> usize
-    requires { ⌜ Room (givesRow a b) (now out) ⌝ }
-    requires { ⌜ (a < 2147483648) × (b < 2147483648) ⌝ }
-    ensures { λ r. ⌜ Put (givesRow a b) (now (out .entry)) (now (out .exit)) r ⌝ }
+// The 0 that ends a clause.
+pub fn put_zero(out: &mut [i32], at: usize) -> usize
+    requires { ⌜ Room (pos 0 ∷ []) at (now out) ⌝ }
+    ensures { λ r. ⌜ Put (pos 0 ∷ []) at (now (out .entry)) (now (out .exit)) r ⌝ }
 {
-    let x = off(a);
-    let y = on(b);
-    out[0] = x;
-    out[1] = y;
-    out[2] = 0;
-    3
+    out[at] = 0;
+    at + 1
 }
 
-// The clause (-a, -b, c).
-fn put_both(out: &mut [i32], a: usize, b: usize, c: usize) -> usize
-    requires { ⌜ Room (bothRow a b c) (now out) ⌝ }
-    requires { ⌜ (a < 2147483648) × (b < 2147483648) × (c < 2147483648) ⌝ }
-    ensures { λ r. ⌜ Put (bothRow a b c) (now (out .entry)) (now (out .exit)) r ⌝ }
+// The clause (-a, b).
+pub fn put_gives(out: &mut [i32], at: usize, a: usize, b: usize) -> usize
+    requires { ⌜ Room (givesRow a b) at (now out) ⌝ }
+    requires { ⌜ Fits a × Fits b ⌝ }
+    ensures { λ r. ⌜ Put (givesRow a b) at (now (out .entry)) (now (out .exit)) r ⌝ }
 {
-    let x = off(a);
-    let y = off(b);
-    let z = on(c);
-    out[0] = x;
-    out[1] = y;
-    out[2] = z;
-    out[3] = 0;
-    4
-}
-
-// The three clauses that make t both x and r.
-fn put_and(out: &mut [i32], t: usize, x: usize, r: usize) -> usize
-    requires { ⌜ Room (andRow t x r) (now out) ⌝ }
-    requires { ⌜ (t < 2147483648) × (x < 2147483648) × (r < 2147483648) ⌝ }
-    ensures { λ u. ⌜ Put (andRow t x r) (now (out .entry)) (now (out .exit)) u ⌝ }
-{
-    let first = put_gives(out, t, x);
-    let second = put_gives(&mut out[first..], t, r);
-    let used = first + second;
-    let third = put_both(&mut out[used..], x, r, t);
-    used + third
-}
-
-// The clauses of an edge whose T is t, on a level whose first R is `first`.
-pub fn put_edge(out: &mut [i32], edge: Edge, t: usize, first: usize) -> usize
-    requires { ⌜ Room (edgeRow (edgeOf edge) t first) (now out) ⌝ }
-    requires { ⌜ (t < 2147483648) × (first < 1073741824) ⌝ }
-    ensures { λ r. ⌜ Put (edgeRow (edgeOf edge) t first) (now (out .entry)) (now (out .exit)) r ⌝ }
-{
-    let x = wide(edge.variable);
-    let from = wide(edge.from);
-    put_and(out, t, x, first + from)
+    let at = put_off(out, at, a);
+    let at = put_on(out, at, b);
+    put_zero(out, at)
 }
 
 // How many edges an edge table holds.
@@ -87,114 +64,122 @@ pub fn edge_count(edges: &[u16]) -> usize
     edges.len() / Edge::NUMBERS
 }
 
-// The literal t, if the edge runs into w.
-fn put_literal(out: &mut [i32], w: usize, edge: Edge, t: usize) -> usize
-    requires { ⌜ Room (literalRow w (edgeOf edge) t) (now out) ⌝ }
-    requires { ⌜ t < 2147483648 ⌝ }
-    ensures { λ r. ⌜ Put (literalRow w (edgeOf edge) t) (now (out .entry)) (now (out .exit)) r ⌝ }
+// The three clauses that make edge k's T, t, both its variable and the R of its start, on a level whose first R is `first`.
+pub fn put_edge(
+    out: &mut [i32],
+    at: usize,
+    edges: &[u16],
+    k: usize,
+    t: usize,
+    first: usize,
+) -> usize
+    requires { ⌜ Room (edgeRow (edge (edgesOf (now edges)) k) t first) at (now out) ⌝ }
+    requires { ⌜ (k < length (edgesOf (now edges))) × Fits t × Early first ⌝ }
+    ensures { λ u. ⌜ Put (edgeRow (edge (edgesOf (now (edges .entry))) k) t first) at (now (out .entry)) (now (out .exit)) u ⌝ }
 {
+    let edge = edge_at(edges, k);
+    let x = wide(edge.variable);
+    let r = first + wide(edge.from);
+    let at = put_gives(out, at, t, x);
+    let at = put_gives(out, at, t, r);
+    let at = put_off(out, at, x);
+    let at = put_off(out, at, r);
+    let at = put_on(out, at, t);
+    put_zero(out, at)
+}
+
+// Whether edge k runs into w.
+fn enters(edges: &[u16], k: usize, w: usize) -> bool
+    requires { ⌜ k < length (edgesOf (now edges)) ⌝ }
+    ensures { λ r. ⌜ r ≡ eqb w (edge (edgesOf (now (edges .entry))) k .to) ⌝ }
+{
+    let edge = edge_at(edges, k);
     let to = wide(edge.to);
-    if w == to {
-        let x = on(t);
-        out[0] = x;
-        return 1;
+    w == to
+}
+
+// The literal t, if edge k runs into w.
+fn put_literal(out: &mut [i32], at: usize, edges: &[u16], k: usize, w: usize, t: usize) -> usize
+    requires { ⌜ Room (literalRow w (edge (edgesOf (now edges)) k) t) at (now out) ⌝ }
+    requires { ⌜ (k < length (edgesOf (now edges))) × Fits t ⌝ }
+    ensures { λ r. ⌜ Put (literalRow w (edge (edgesOf (now (edges .entry))) k) t) at (now (out .entry)) (now (out .exit)) r ⌝ }
+{
+    if enters(edges, k, w) {
+        return put_on(out, at, t);
     }
-    0
+    at
 }
 
 // The T of each edge into w; the edges' T start at `first`.
-fn put_literals(out: &mut [i32], edges: &[u16], first: usize, w: usize) -> usize
-    requires { ⌜ Room (literalsRow (edgesOf (now edges)) first w) (now out) ⌝ }
-    requires { ⌜ (length (edgesOf (now edges)) ≤ 256) × (first < 1073741824) ⌝ }
-    ensures { λ r. ⌜ Put (literalsRow (edgesOf (now (edges .entry))) first w) (now (out .entry)) (now (out .exit)) r ⌝ }
+fn put_literals(out: &mut [i32], at: usize, edges: &[u16], first: usize, w: usize) -> usize
+    requires { ⌜ Room (literalsRow (edgesOf (now edges)) first w) at (now out) ⌝ }
+    requires { ⌜ (length (edgesOf (now edges)) ≤ maxEdges) × Early first ⌝ }
+    ensures { λ r. ⌜ Put (literalsRow (edgesOf (now (edges .entry))) first w) at (now (out .entry)) (now (out .exit)) r ⌝ }
 {
     let count = edge_count(edges);
-    let mut used: usize = 0;
+    let mut end = at;
     let mut k = 0;
     while k < count {
-        let edge = edge_at(edges, k);
-        let more = put_literal(&mut out[used..], w, edge, first + k);
-        used += more;
+        end = put_literal(out, end, edges, k, w, first + k);
         k += 1;
     }
-    used
+    end
 }
 
-// The clause (-t, q), if the edge runs into w.
-fn put_into(out: &mut [i32], w: usize, edge: Edge, t: usize, q: usize) -> usize
-    requires { ⌜ Room (intoRow w (edgeOf edge) t q) (now out) ⌝ }
-    requires { ⌜ (t < 2147483648) × (q < 2147483648) ⌝ }
-    ensures { λ r. ⌜ Put (intoRow w (edgeOf edge) t q) (now (out .entry)) (now (out .exit)) r ⌝ }
+// The clause (-t, q), if edge k runs into w.
+fn put_into(
+    out: &mut [i32],
+    at: usize,
+    edges: &[u16],
+    k: usize,
+    w: usize,
+    t: usize,
+    q: usize,
+) -> usize
+    requires { ⌜ Room (intoRow w (edge (edgesOf (now edges)) k) t q) at (now out) ⌝ }
+    requires { ⌜ (k < length (edgesOf (now edges))) × Fits t × Fits q ⌝ }
+    ensures { λ r. ⌜ Put (intoRow w (edge (edgesOf (now (edges .entry))) k) t q) at (now (out .entry)) (now (out .exit)) r ⌝ }
 {
-    let to = wide(edge.to);
-    if w == to {
-        return put_gives(out, t, q);
+    if enters(edges, k, w) {
+        return put_gives(out, at, t, q);
     }
-    0
+    at
 }
 
 // The clause (-T, q) of each edge into w; the edges' T start at `first`.
-fn put_intos(out: &mut [i32], edges: &[u16], first: usize, q: usize, w: usize) -> usize
-    requires { ⌜ Room (intosRow (edgesOf (now edges)) first q w) (now out) ⌝ }
-    requires { ⌜ (length (edgesOf (now edges)) ≤ 256) × (first < 1073741824) × (q < 2147483648) ⌝ }
-    ensures { λ r. ⌜ Put (intosRow (edgesOf (now (edges .entry))) first q w) (now (out .entry)) (now (out .exit)) r ⌝ }
+fn put_intos(out: &mut [i32], at: usize, edges: &[u16], first: usize, q: usize, w: usize) -> usize
+    requires { ⌜ Room (intosRow (edgesOf (now edges)) first q w) at (now out) ⌝ }
+    requires { ⌜ (length (edgesOf (now edges)) ≤ maxEdges) × Early first × Fits q ⌝ }
+    ensures { λ r. ⌜ Put (intosRow (edgesOf (now (edges .entry))) first q w) at (now (out .entry)) (now (out .exit)) r ⌝ }
 {
     let count = edge_count(edges);
-    let mut used: usize = 0;
+    let mut end = at;
     let mut k = 0;
     while k < count {
-        let edge = edge_at(edges, k);
-        let more = put_into(&mut out[used..], w, edge, first + k, q);
-        used += more;
+        end = put_into(out, end, edges, k, w, first + k, q);
         k += 1;
     }
-    used
-}
-
-// The literals -q and r.
-fn put_two(out: &mut [i32], q: usize, r: usize) -> usize
-    requires { ⌜ Room (off q ∷ on r ∷ []) (now out) ⌝ }
-    requires { ⌜ (q < 2147483648) × (r < 2147483648) ⌝ }
-    ensures { λ u. ⌜ Put (off q ∷ on r ∷ []) (now (out .entry)) (now (out .exit)) u ⌝ }
-{
-    let x = off(q);
-    let y = on(r);
-    out[0] = x;
-    out[1] = y;
-    2
-}
-
-// The 0 that ends a clause.
-fn put_zero(out: &mut [i32]) -> usize
-    requires { ⌜ Room (pos 0 ∷ []) (now out) ⌝ }
-    ensures { λ r. ⌜ Put (pos 0 ∷ []) (now (out .entry)) (now (out .exit)) r ⌝ }
-{
-    out[0] = 0;
-    1
-}
-
-// The clause (-q, r, the T of each edge into w).
-fn put_reached(out: &mut [i32], edges: &[u16], first: usize, r: usize, q: usize, w: usize) -> usize
-    requires { ⌜ Room (reachedRow (edgesOf (now edges)) first r q w) (now out) ⌝ }
-    requires { ⌜ (length (edgesOf (now edges)) ≤ 256) × (first < 1073741824) × (r < 2147483648) × (q < 2147483648) ⌝ }
-    ensures { λ u. ⌜ Put (reachedRow (edgesOf (now (edges .entry))) first r q w) (now (out .entry)) (now (out .exit)) u ⌝ }
-{
-    let two = put_two(out, q, r);
-    let literals = put_literals(&mut out[two..], edges, first, w);
-    let used = two + literals;
-    let end = put_zero(&mut out[used..]);
-    used + end
+    end
 }
 
 // The clauses of node w, whose R is r on this level and q on the next.
-pub fn put_node(out: &mut [i32], edges: &[u16], first: usize, r: usize, q: usize, w: usize) -> usize
-    requires { ⌜ Room (nodeRow (edgesOf (now edges)) first r q w) (now out) ⌝ }
-    requires { ⌜ (length (edgesOf (now edges)) ≤ 256) × (first < 1073741824) × (r < 2147483648) × (q < 2147483648) ⌝ }
-    ensures { λ u. ⌜ Put (nodeRow (edgesOf (now (edges .entry))) first r q w) (now (out .entry)) (now (out .exit)) u ⌝ }
+pub fn put_node(
+    out: &mut [i32],
+    at: usize,
+    edges: &[u16],
+    first: usize,
+    r: usize,
+    q: usize,
+    w: usize,
+) -> usize
+    requires { ⌜ Room (nodeRow (edgesOf (now edges)) first r q w) at (now out) ⌝ }
+    requires { ⌜ (length (edgesOf (now edges)) ≤ maxEdges) × Early first × Fits r × Fits q ⌝ }
+    ensures { λ u. ⌜ Put (nodeRow (edgesOf (now (edges .entry))) first r q w) at (now (out .entry)) (now (out .exit)) u ⌝ }
 {
-    let reached = put_reached(out, edges, first, r, q, w);
-    let gives = put_gives(&mut out[reached..], r, q);
-    let used = reached + gives;
-    let intos = put_intos(&mut out[used..], edges, first, q, w);
-    used + intos
+    let at = put_off(out, at, q);
+    let at = put_on(out, at, r);
+    let at = put_literals(out, at, edges, first, w);
+    let at = put_zero(out, at);
+    let at = put_gives(out, at, r, q);
+    put_intos(out, at, edges, first, q, w)
 }

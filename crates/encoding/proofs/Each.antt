@@ -1,7 +1,7 @@
 -- Laws of `each` and `flat`: tests, members and lengths.
 -- Assumes nothing.
 use mathlib.Core.Path.{_≡_, refl, sym, _∙_, ap, ap₂, subst}
-use mathlib.Core.List.{List, [], _∷_, _++_, append-assoc, List·Memᴰ, List·Memᴰ·append-cases, List·Memᴰ·not-nil}
+use mathlib.Core.List.{List, [], _∷_, _++_, append-assoc}
 use mathlib.Core.Bool.{Bool, true, false, _&&_, _||_}
 use mathlib.Core.Logic.{_↔_, _⊎_, inl, inr}
 use Prim.Native.Nat.{ℕ, zero, suc, _+_, _*_, _≤_, _<_}
@@ -81,15 +81,6 @@ module _ {A : Type 0} (f : A → Bool) where
     λ h. let p = both (each n g) (g n) .0 h in below-suc {P = λ i. T (allOf f (g i))} (all-each n g .0 (p .0)) (p .1),
     λ h. both (each n g) (g n) .1 (all-each n g .1 (λ i l. h i (omega arith)), h n (omega arith)),
   )
-
-pub each-in : {A : Type 0} (n : ℕ) (g : ℕ → List A) (x : A) → List·Memᴰ x (each n g) → (i : ℕ) × (i < n) × List·Memᴰ x (g i)
-unfolding each
-each-in zero g x m = absurd (List·Memᴰ·not-nil m)
-each-in (suc n) g x m = go (each-in n g x) (List·Memᴰ·append-cases (each n g) m)
-  where
-    go : (List·Memᴰ x (each n g) → (i : ℕ) × (i < n) × List·Memᴰ x (g i)) → List·Memᴰ x (each n g) ⊎ List·Memᴰ x (g n) → (i : ℕ) × (i < suc n) × List·Memᴰ x (g i)
-    go ih (inl k) = let r = ih k in (r .0, omega (arith, r .1), r .2)
-    go ih (inr k) = (n, omega arith, k)
 
 pub flat-append : (Cs Ds : List (List ℤ)) → flat (Cs ++ Ds) ≡ flat Cs ++ flat Ds
 unfolding flat

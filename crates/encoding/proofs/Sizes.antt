@@ -13,10 +13,10 @@ use lib.ListN.{length, length-append}
 use Rattle.plan.specs.declared.Kind.{Kind}
 use Rattle.plan.specs.declared.Kind.the-variants.{Reaches, Within}
 use Rattle.plan.specs.Meaning.{Edge, Atom, PlanFile, edge, on, off}
-use Rattle.plan.specs.Ranged.{literals, Ranged}
+use Rattle.plan.specs.Ranged.{maxNodes, maxEdges, maxAtoms, literals, Ranged}
 use Rattle.plan.specs.Written.{each, flat, R, U, into, startClauses, edgeClauses, nodeClauses, levelClauses, endClauses, block, levelsOf, levels, blockVariables, blockClauses, blockNumbers, atomBlock, after, blocks, last, written, lastVariable}
 use Rattle.plan.proofs.Walks.{le-or-lt}
-use Rattle.encoding.specs.Counts.{total, Counted}
+use Rattle.encoding.specs.Counts.{total, Counted, InLimits, mostBlockVariables, mostBlockClauses, mostBlockNumbers, mostVariables, mostClauses, mostNumbers}
 use Rattle.encoding.proofs.Each.{below-zero, flat-append, flat-each, sum, sum-same, sum-const, sum-add, sum-mul, sum-swap, length-each}
 use Rattle.encoding.proofs.Literals.{edge-ends}
 
@@ -194,41 +194,54 @@ levels-le n A = go (A .kind)
     go Reaches = omega arith
     go Within = omega arith
 
-pub total-le : (size : ℕ → ℕ) (n most : ℕ) → ((L : ℕ) → L ≤ n - 1 → size L ≤ most) → (As : List Atom) → total size n As ≤ length As * most
+total-le : (size : ℕ → ℕ) (n most : ℕ) → ((L : ℕ) → L ≤ n - 1 → size L ≤ most) → (As : List Atom) → total size n As ≤ length As * most
 unfolding total
 total-le size n most h [] = omega arith
 total-le size n most h (A ∷ As) = omega (arith, h (levels n A) (levels-le n A), total-le size n most h As)
 
--- at the limits of 64 nodes and 256 edges
-module _ (n m : ℕ) (hn : n ≤ 64) (hm : m ≤ 256) (L : ℕ) (hL : L ≤ n - 1) where
-  pub level-product : (d most : ℕ) → d ≤ most → L * d ≤ 63 * most
-  level-product d most hd = le-trans (mul-le-mul-right {m = L} {n = 63} d (omega arith)) (mul-le-mul-left {m = d} {n = most} 63 hd)
+module _ {n m L : ℕ} (h : InLimits n m L) where
+  level-product : (d most : ℕ) → d ≤ most → L * d ≤ 63 * most
+  level-product d most hd = le-trans (mul-le-mul-right {m = L} {n = 63} d (omega (arith, h .nodes, h .levels))) (mul-le-mul-left {m = d} {n = most} 63 hd)
 
-  pub block-variables-most : blockVariables n m L ≤ 20224
+  pub block-variables-most : blockVariables n m L ≤ mostBlockVariables
   unfolding blockVariables
-  block-variables-most = omega (arith, level-product n 64 hn, level-product m 256 hm)
+  block-variables-most = omega (arith, h .nodes, level-product n 64 (h .nodes), level-product m 256 (h .edges))
 
-  pub block-clauses-most : blockClauses n m L ≤ 72642
+  pub block-clauses-most : blockClauses n m L ≤ mostBlockClauses
   unfolding blockClauses
-  block-clauses-most = omega (arith, level-product (4 * m + 2 * n) 1152 (omega arith))
+  block-clauses-most = omega (arith, h .nodes, level-product (4 * m + 2 * n) 1152 (omega (arith, h .nodes, h .edges)))
 
-  pub block-numbers-most : blockNumbers n m L ≤ 250118
+  pub block-numbers-most : blockNumbers n m L ≤ mostBlockNumbers
   unfolding blockNumbers
-  block-numbers-most = omega (arith, level-product (14 * m + 6 * n) 3968 (omega arith))
+  block-numbers-most = omega (arith, h .nodes, level-product (14 * m + 6 * n) 3968 (omega (arith, h .nodes, h .edges)))
 
--- At most 1,294,848 variables, so that every literal fits 32 bits, 4,650,112 clauses and 16,012,672 numbers.
+-- The blocks of at most 64 atoms.
+pub record BlocksMost (n m : ℕ) (As : List Atom) : Type 0 where
+  pub variables : total (blockVariables n m) n As ≤ maxAtoms * mostBlockVariables
+  pub clauses : total (blockClauses n m) n As ≤ maxAtoms * mostBlockClauses
+  pub numbers : total (blockNumbers n m) n As ≤ maxAtoms * mostBlockNumbers
+
+pub blocks-most : (n m : ℕ) → n ≤ maxNodes → m ≤ maxEdges → (As : List Atom) → length As ≤ maxAtoms → BlocksMost n m As
+blocks-most n m hn hm As k =
+    let limits : (L : ℕ) → L ≤ n - 1 → InLimits n m L = λ L l. record { nodes = hn; edges = hm; levels = l } in
+    record {
+      variables = omega (arith, total-le (blockVariables n m) n mostBlockVariables (λ L l. block-variables-most (limits L l)) As);
+      clauses = omega (arith, total-le (blockClauses n m) n mostBlockClauses (λ L l. block-clauses-most (limits L l)) As);
+      numbers = omega (arith, total-le (blockNumbers n m) n mostBlockNumbers (λ L l. block-numbers-most (limits L l)) As);
+    }
+
+-- What is written is within the most, so that every literal fits 32 bits.
 pub record Small (φ : PlanFile) : Type 0 where
-  pub variables : lastVariable φ ≤ 1294848
-  pub clauses : length (written φ) ≤ 4650112
-  pub numbers : length (flat (written φ)) ≤ 16012672
+  pub variables : lastVariable φ ≤ mostVariables
+  pub clauses : length (written φ) ≤ mostClauses
+  pub numbers : length (flat (written φ)) ≤ mostNumbers
 
 pub small : (φ : PlanFile) → Ranged φ → Small φ
 small φ r =
-    let n = φ .nodes in
-    let m = length (φ .edges) in
     let c = counted φ r in
+    let b = blocks-most (φ .nodes) (length (φ .edges)) (r .nodes) (r .edges) (φ .atoms) (r .atoms) in
     record {
-      variables = omega (arith, c .variables, r .variables, r .atoms, total-le (blockVariables n m) n 20224 (block-variables-most n m (r .nodes) (r .edges)) (φ .atoms));
-      clauses = omega (arith, c .clauses, r .clauses, r .atoms, total-le (blockClauses n m) n 72642 (block-clauses-most n m (r .nodes) (r .edges)) (φ .atoms));
-      numbers = omega (arith, c .numbers, r .clauses, r .literals, r .atoms, total-le (blockNumbers n m) n 250118 (block-numbers-most n m (r .nodes) (r .edges)) (φ .atoms));
+      variables = omega (arith, c .variables, r .variables, b .variables);
+      clauses = omega (arith, c .clauses, r .clauses, b .clauses);
+      numbers = omega (arith, c .numbers, r .clauses, r .literals, b .numbers);
     }

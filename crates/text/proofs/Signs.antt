@@ -1,8 +1,8 @@
--- The code's `-1 - z` at a negative z, and that it is one less than z without its sign.
+-- The code's `-1 - z`: it fits whenever z does, and at a negative z it is one less than z without its sign.
 -- Assumes nothing.
-use mathlib.Core.Path.{_≡_, ap, _∙_}
+use mathlib.Core.Path.{_≡_, refl, ap, _∙_}
 use mathlib.Core.Bool.{true}
-use Prim.Native.Nat.{suc, _+_, _-_, _<_, _≤_}
+use Prim.Native.Nat.{zero, suc, _+_, _-_, _<_, _≤_}
 use native.Mathlib.Omega.{arith}
 use lib.IntN.{ℤ, pos, negsuc, natAbs, _-ℤ_}
 use lib.Signed.{mag, ltZ}
@@ -11,24 +11,42 @@ use mir.Syntax.{Width}
 use mir.Val.{SFits, toZ, ofZ}
 use mir.Facts.{toZ-ofZ}
 
-below-one : (z : ℤ) → ltZ z (pos 0) ≡ true → negsuc 0 -ℤ z ≡ pos (mag z)
-below-one (pos n) e = let h : n < 0 = ltb-true n 0 e in absurd (omega arith)
-below-one (negsuc n) e =
+abbrev flipped : ℤ → ℤ
+flipped (pos n) = negsuc n
+flipped (negsuc n) = pos n
+
+flip : (z : ℤ) → negsuc 0 -ℤ z ≡ flipped z
+flip (pos zero) = refl
+flip (pos (suc n)) = let e : suc (0 + n) ≡ suc n = omega arith in ap negsuc e
+flip (negsuc n) =
     let h : 1 ≤ suc n = omega arith in
     let d : suc n - 1 ≡ n = omega arith in
     rw (le-ltb (suc n) 1 h) (ap pos d)
 
-pub one-more : (z : ℤ) → ltZ z (pos 0) ≡ true → mag z + 1 ≡ natAbs z
-one-more (pos n) e = let h : n < 0 = ltb-true n 0 e in absurd (omega arith)
-one-more (negsuc n) e = omega arith
+flipped-fits : {w : Width} (z : ℤ) → SFits w z → SFits w (flipped z)
+flipped-fits (pos n) f = record { sfits = f .sfits }
+flipped-fits (negsuc n) f = record { sfits = f .sfits }
 
-module _ {w : Width} (z : ℤ) (f : SFits w z) (e : ltZ z (pos 0) ≡ true) where
-  below-fits : SFits w (negsuc 0 -ℤ z)
-  below-fits = rw (below-one z e) (record { sfits = f .sfits })
-
-  -- as the needs have the two
+-- as the needs have it
+module _ {w : Width} (z : ℤ) (f : SFits w z) where
   pub difference-fits : SFits w (negsuc 0 -ℤ toZ w (ofZ w z))
-  difference-fits = rw (toZ-ofZ f) below-fits
+  difference-fits = rw (toZ-ofZ f, flip z) (flipped-fits z f)
 
-  pub difference-is : toZ w (ofZ w (negsuc 0 -ℤ toZ w (ofZ w z))) ≡ pos (mag z)
-  difference-is = rw (toZ-ofZ f) (toZ-ofZ below-fits ∙ below-one z e)
+  pub difference-is : toZ w (ofZ w (negsuc 0 -ℤ toZ w (ofZ w z))) ≡ flipped z
+  difference-is = toZ-ofZ difference-fits ∙ rw (toZ-ofZ f, flip z)
+
+-- at a negative number
+module _ (z : ℤ) (e : ltZ z (pos 0) ≡ true) where
+  pub flipped-is : flipped z ≡ pos (mag z)
+  flipped-is = go z e
+    where
+      go : (y : ℤ) → ltZ y (pos 0) ≡ true → flipped y ≡ pos (mag y)
+      go (pos n) l = let h : n < 0 = ltb-true n 0 l in absurd (omega arith)
+      go (negsuc n) l = refl
+
+  pub one-more : mag z + 1 ≡ natAbs z
+  one-more = go z e
+    where
+      go : (y : ℤ) → ltZ y (pos 0) ≡ true → mag y + 1 ≡ natAbs y
+      go (pos n) l = let h : n < 0 = ltb-true n 0 l in absurd (omega arith)
+      go (negsuc n) l = omega arith

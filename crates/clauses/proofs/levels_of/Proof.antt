@@ -1,3 +1,4 @@
+-- By the atom's kind.
 use mathlib.Core.Path.{sym}
 use native.Mathlib.Omega.{arith}
 use Rattle.plan.specs.Tables.{atomOf}

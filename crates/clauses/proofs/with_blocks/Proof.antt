@@ -1,3 +1,4 @@
+-- The blocks counted one by one: so many atoms are counted, those of the table's beginning.
 use Prim.Native.Nat.{_-_, _≤_, _<_}
 use native.Mathlib.Omega.{arith}
 use lib.ListN.{length, take}
@@ -15,20 +16,11 @@ Inv-loop edges atoms nodes edge-number atom-number counts₀ j₀ counts j =
 abbrev μ-loop : tie.MeasureT-loop
 μ-loop edges atoms nodes edge-number atom-number counts₀ j₀ counts j = length (atomsOf atoms) - j
 
-edge-count-requires : tie.Need-edge-count-requires Inv-loop μ-loop
-edge-count-requires c κs = omega arith
-
-atom-count-requires : tie.Need-atom-count-requires Inv-loop μ-loop
-atom-count-requires c κs = omega arith
-
 loop-holds : tie.Need-loop-holds Inv-loop μ-loop
 loop-holds c = (omega arith, added-none _ _ (atomsOf (c .before .before .before .before .args .atoms .now)) _)
 
 atom-at-requires : tie.Need-atom-at-requires Inv-loop μ-loop
 atom-at-requires c κs = atom-place (c .before .before .before .before .before .before .args .atoms .now) (c .before .loop .j) (omega arith)
-
-levels-of-requires : tie.Need-levels-of-requires Inv-loop μ-loop
-levels-of-requires c κs = omega arith
 
 -- an atom and its levels
 module _ (c : tie.After-levels-of Inv-loop μ-loop) where
@@ -47,12 +39,6 @@ with-block-requires c κs = (
   few (begin c .pre) (inside c) (turn c .loop .inv .1) (c .before .atom-at .ensures) (c .levels-of .ensures),
 )
 
-add-j : tie.Need-add-j Inv-loop μ-loop
-add-j c = omega arith
-
-loop-less : tie.Need-loop-less Inv-loop μ-loop
-loop-less c = omega arith
-
 loop-again : tie.Need-loop-again Inv-loop μ-loop
 loop-again c =
     let d = c .before in (
@@ -69,13 +55,13 @@ with-blocks-spec =
     (tie.spec
     Inv-loop
     μ-loop
-    edge-count-requires
-    atom-count-requires
+    (λ c κs. omega arith)
+    (λ c κs. omega arith)
     loop-holds
     atom-at-requires
-    levels-of-requires
+    (λ c κs. omega arith)
     with-block-requires
-    add-j
-    loop-less
+    (λ c. omega arith)
+    (λ c. omega arith)
     loop-again
     returns)

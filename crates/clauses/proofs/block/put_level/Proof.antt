@@ -1,3 +1,4 @@
+-- The edges, and the nodes behind them.
 use native.Mathlib.Omega.{arith}
 use Rattle.clauses.specs.Rows.{levelRow}
 use Rattle.clauses.proofs.Fronts.{room-first, room-rest, put-then}
@@ -6,44 +7,18 @@ use Rattle.clauses.proofs.block.put_level.Tie as tie
 
 put-edges-requires : tie.Need-put-edges-requires
 unfolding levelRow
-put-edges-requires c κs = (room-first _ _ (c .before .before .pre .0), c .before .before .pre .1 .0)
-
-mul-put-nodes : tie.Need-mul-put-nodes
-mul-put-nodes c = omega arith
-
-sub-put-nodes : tie.Need-sub-put-nodes
-sub-put-nodes c = omega arith
-
-part-put-nodes-start : tie.Need-part-put-nodes-start
-part-put-nodes-start c = omega arith
-
-part-put-nodes-end : tie.Need-part-put-nodes-end
-part-put-nodes-end c = omega arith
+put-edges-requires c κs = let s = c .before .before in (room-first _ _ (s .pre .0), s .pre .1 .0)
 
 put-nodes-requires : tie.Need-put-nodes-requires
 unfolding levelRow
-put-nodes-requires c κs = (room-rest _ _ (c .before .before .before .before .before .pre .0) (c .before .before .put-edges .ensures), c .before .before .before .before .before .pre .1)
-
-add-result : tie.Need-add-result
-add-result c = omega arith
-
-same-length : tie.Need-same-length
-same-length c = omega arith
+put-nodes-requires c κs =
+    let edges = c .before .before in
+    let s = edges .before .before .before in
+    (room-rest _ _ (s .pre .0) (edges .put-edges .ensures), s .pre .1)
 
 returns : tie.Need-returns
 unfolding levelRow
-returns c = put-then (c .before .before .before .before .put-edges .ensures) (c .before .put-nodes .ensures)
+returns c = let nodes = c .before in put-then (nodes .before .before .before .put-edges .ensures) (nodes .put-nodes .ensures)
 
 pub put-level-spec : {M : Type 1} → statement M
-put-level-spec =
-    tie.close
-    (tie.spec
-    put-edges-requires
-    mul-put-nodes
-    sub-put-nodes
-    part-put-nodes-start
-    part-put-nodes-end
-    put-nodes-requires
-    add-result
-    same-length
-    returns)
+put-level-spec = tie.close (tie.spec put-edges-requires put-nodes-requires (λ c. omega arith) returns)

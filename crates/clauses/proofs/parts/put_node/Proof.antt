@@ -1,74 +1,51 @@
+-- The clause of the node, that it stays reached, and the clauses of the edges into it.
+use mathlib.Core.Path.{_≡_}
+use Prim.Native.Nat.{_+_}
 use native.Mathlib.Omega.{arith}
-use Rattle.clauses.specs.Rows.{nodeRow}
-use Rattle.clauses.proofs.Fronts.{room-first, room-rest, put-then}
+use lib.ListN.{length}
+use Rattle.plan.specs.Tables.{edgesOf}
+use Rattle.clauses.specs.Rows.{givesRow, literalsRow, intosRow, nodeRow}
+use Rattle.clauses.proofs.Fronts.{put-then}
+use Rattle.clauses.proofs.Rows.{node-size}
 use Rattle.clauses.proofs.parts.put_node.Statement.{statement}
 use Rattle.clauses.proofs.parts.put_node.Tie as tie
 
-put-reached-requires : tie.Need-put-reached-requires
-unfolding nodeRow
-put-reached-requires c κs = (room-first _ _ (room-first _ _ (c .before .before .pre .0)), c .before .before .pre .1)
+module _ (c : tie.After-put-off) where
+  abbrev begin : tie.Start
+  begin = c .before .before .before
 
-mul-put-gives : tie.Need-mul-put-gives
-mul-put-gives c = omega arith
+  size : length (nodeRow (edgesOf (begin .args .edges .now)) (begin .args .first) (begin .args .r) (begin .args .q) (begin .args .w))
+      ≡ 6 + (length (literalsRow (edgesOf (begin .args .edges .now)) (begin .args .first) (begin .args .w)) + length (intosRow (edgesOf (begin .args .edges .now)) (begin .args .first) (begin .args .q) (begin .args .w)))
+  size = node-size _ _ _ _ _
 
-sub-put-gives : tie.Need-sub-put-gives
-sub-put-gives c = omega arith
+module _ (c : tie.After-put-literals) where
+  abbrev first : tie.After-put-off
+  first = c .before .before .before .before .before .before
 
-part-put-gives-start : tie.Need-part-put-gives-start
-part-put-gives-start c = omega arith
-
-part-put-gives-end : tie.Need-part-put-gives-end
-part-put-gives-end c = omega arith
-
-put-gives-requires : tie.Need-put-gives-requires
-unfolding nodeRow
-put-gives-requires c κs = (room-rest _ _ (room-first _ _ (c .before .before .before .before .before .pre .0)) (c .before .before .put-reached .ensures), omega arith)
-
-add-used : tie.Need-add-used
-add-used c = omega arith
-
-mul-put-intos : tie.Need-mul-put-intos
-mul-put-intos c = omega arith
-
-sub-put-intos : tie.Need-sub-put-intos
-sub-put-intos c = omega arith
-
-part-put-intos-start : tie.Need-part-put-intos-start
-part-put-intos-start c = omega arith
-
-part-put-intos-end : tie.Need-part-put-intos-end
-part-put-intos-end c = omega arith
-
-put-intos-requires : tie.Need-put-intos-requires
-unfolding nodeRow
-put-intos-requires c κs = (room-rest _ _ (c .before .before .before .before .before .before .before .before .pre .0) (put-then (c .before .before .before .before .before .put-reached .ensures) (c .before .before .put-gives .ensures)), omega arith)
-
-add-result : tie.Need-add-result
-add-result c = omega arith
-
-same-length : tie.Need-same-length
-same-length c = omega arith
+put-off-requires : tie.Need-put-off-requires
+put-off-requires c κs = let s = (c .before .before .args) in omega (arith, node-size (edgesOf (s .edges .now)) (s .first) (s .r) (s .q) (s .w))
 
 returns : tie.Need-returns
 unfolding nodeRow
-returns c = put-then (put-then (c .before .before .before .before .before .before .before .put-reached .ensures) (c .before .before .before .before .put-gives .ensures)) (c .before .put-intos .ensures)
+returns c =
+    let intos = c .before in
+    let kept = intos .before .before .before in
+    let end = kept .before .before .before in
+    let literals = end .before .before .before in
+    let second = literals .before .before .before in
+    let clause = put-then (put-then (first literals .put-off .ensures) (second .put-on .ensures)) (literals .put-literals .ensures) in
+    put-then (put-then clause (put-then (end .put-zero .ensures) (kept .put-gives .ensures))) (intos .put-intos .ensures)
 
 pub put-node-spec : {M : Type 1} → statement M
+unfolding givesRow
 put-node-spec =
     tie.close
     (tie.spec
-    put-reached-requires
-    mul-put-gives
-    sub-put-gives
-    part-put-gives-start
-    part-put-gives-end
-    put-gives-requires
-    add-used
-    mul-put-intos
-    sub-put-intos
-    part-put-intos-start
-    part-put-intos-end
-    put-intos-requires
-    add-result
-    same-length
+    put-off-requires
+    (λ c κs. omega (arith, size (c .before .before)))
+    (λ c κs. omega (arith, size (c .before .before .before .before .before)))
+    (λ c κs. omega (arith, size (first (c .before .before))))
+    (λ c κs. omega (arith, size (first (c .before .before .before .before .before))))
+    (λ c κs. omega (arith, size (first (c .before .before .before .before .before .before .before .before))))
+    (λ c. omega arith)
     returns)

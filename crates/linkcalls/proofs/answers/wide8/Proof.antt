@@ -5,11 +5,5 @@ use borrow.Author.Needs.{needs}
 use Rattle.linkcalls.proofs.answers.wide8.Statement.{statement}
 use Rattle.linkcalls.proofs.answers.wide8.Tie as tie
 
-cast-result : tie.Need-cast-result
-cast-result c = rw (toZ-ofZ (c .fits .value)) (sfits-widen tt (c .fits .value))
-
-returns : tie.Need-returns
-returns c = search needs
-
 pub wide8-spec : {M : Type 1} → statement M
-wide8-spec = tie.close (tie.spec cast-result returns)
+wide8-spec = tie.close (tie.spec (λ c. rw (toZ-ofZ (c .fits .value)) (sfits-widen tt (c .fits .value))) (λ c. search needs))

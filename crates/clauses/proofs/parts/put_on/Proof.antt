@@ -1,0 +1,19 @@
+-- One store, of the number itself.
+use native.Mathlib.Omega.{arith}
+use borrow.Author.Needs.{needs}
+use lib.IntN.{pos}
+use Rattle.clauses.proofs.Fronts.{put-one}
+use Rattle.clauses.proofs.Numbers.{kept-on}
+use Rattle.clauses.proofs.parts.put_on.Statement.{statement}
+use Rattle.clauses.proofs.parts.put_on.Tie as tie
+
+pub put-on-spec : {M : Type 1} → statement M
+put-on-spec =
+    tie.close
+    (tie.spec
+    (λ c. search needs)
+    (λ c. search needs)
+    (λ c. search needs)
+    (λ c. search needs)
+    (λ c. search needs)
+    (λ c. rw (kept-on (c .args .variable) (c .pre .1)) (put-one (pos (c .args .variable)) (c .args .at) (c .args .out .now) (omega arith))))
