@@ -2,11 +2,11 @@
 -- Assumes nothing.
 use mathlib.Core.Path.{_≡_, sym, _∙_, ap, subst}
 use mathlib.Core.List.{List, [], _∷_, _++_, append-assoc, append-nil}
-use Prim.Native.Nat.{ℕ, suc, _+_, _≤_, _<_}
+use Prim.Native.Nat.{ℕ, suc, _+_, _-_, _≤_, _<_}
 use native.Mathlib.Omega.{arith}
 use lib.IntN.{ℤ}
 use lib.ListN.{length, take, drop, set, length-append, length-take, length-drop, take-append-drop}
-use lib.Seq.{take-at, drop-at, drop-drop, set-split}
+use lib.Seq.{take-at, drop-at, drop-drop, drop-length, take-all, set-split}
 use Rattle.clauses.specs.Front.{Room, Put}
 
 pub put-as : {ws vs old new : List ℤ} {at end : ℕ} → ws ≡ vs → Put ws at old new end → Put vs at old new end
@@ -62,6 +62,38 @@ put-then {ws} {vs} {old} {mid} {new} {at} {a} {b} p q =
       inside = omega (arith, q .inside, put-length p);
       is = q .is ∙ ap (λ x. x ++ drop (length x) mid) same ∙ ap (λ l. whole ++ l) (ap (λ k. drop k mid) size ∙ behind p (length vs) ∙ ap (λ k. drop k old) (sym size));
     }
+
+-- what is lent on from the place a on, and the whole once t stands there
+abbrev pub rest : ℕ → List ℤ → List ℤ
+rest a l = take (length l - a) (drop a l)
+
+abbrev pub joined : ℕ → List ℤ → List ℤ → List ℤ
+joined a l t = take a l ++ (t ++ drop (length l - a) (drop a l))
+
+module _ (a : ℕ) (old : List ℤ) where
+  lent : rest a old ≡ drop a old
+  lent = take-all (length old - a) (drop a old) (omega (arith, length-drop a old))
+
+  none : drop (length old - a) (drop a old) ≡ []
+  none = ap (λ k. drop k (drop a old)) (sym (length-drop a old)) ∙ drop-length (drop a old)
+
+  pub rest-length : length (rest a old) ≡ length old - a
+  rest-length = ap length lent ∙ length-drop a old
+
+  pub room-tail : {ws : List ℤ} → Room ws a old → Room ws 0 (rest a old)
+  room-tail h = record { fits = omega (arith, h .fits, rest-length) }
+
+  -- who writes at the front of that writes at a
+  pub put-tail : {ws t : List ℤ} {b : ℕ} → a ≤ length old → Put ws 0 (rest a old) t b → Put ws a old (joined a old t) (a + b)
+  put-tail {ws} {t} {b} l p =
+      let size : length (take a old ++ ws) ≡ a + length ws = omega (arith, length-append (take a old) ws, length-take a old) in
+      let tail : t ≡ ws ++ drop (length (take a old ++ ws)) old =
+      p .is ∙ ap (λ x. ws ++ x) (ap (drop (length ws)) lent ∙ drop-drop (length ws) a old ∙ ap (λ k. drop k old) (sym size)) in
+      record {
+        count = omega (arith, p .count);
+        inside = omega (arith, p .inside, rest-length);
+        is = ap (λ x. take a old ++ (t ++ x)) none ∙ ap (λ x. take a old ++ x) (append-nil t ∙ tail) ∙ sym (append-assoc (take a old) ws (drop (length (take a old ++ ws)) old));
+      }
 
 -- the room of two pieces: the first's, and the second's behind it
 pub room-first : (ws vs : List ℤ) {old : List ℤ} {at : ℕ} → Room (ws ++ vs) at old → Room ws at old

@@ -58,26 +58,6 @@ module _ (n : ℕ) (es : List Edge) where
   before-le base (A ∷ As) zero = omega (arith, last-ge n es (after n es base A) As)
   before-le base (A ∷ As) (suc j) = before-le (after n es base A) As j
 
--- an atom's levels, by its kind
-module _ (n : ℕ) (A : Atom) where
-  pub levels-reaches : A .kind ≡ 1 → levels n A ≡ n - 1
-  unfolding levels
-  levels-reaches e = ap (λ k. levelsOf n k (A .bound)) e
-
-  pub levels-within : A .kind ≡ 2 → levels n A ≡ min (A .bound) (n - 1)
-  unfolding levels
-  levels-within e = ap (λ k. levelsOf n k (A .bound)) e
-
-  pub levels-none : (A .kind ≡ 1 → ⊥) → (A .kind ≡ 2 → ⊥) → levels n A ≡ 0
-  unfolding levels
-  levels-none h k = none (A .kind) h k
-    where
-      none : (kind : ℕ) → (kind ≡ 1 → ⊥) → (kind ≡ 2 → ⊥) → levelsOf n kind (A .bound) ≡ 0
-      none zero h k = refl
-      none (suc zero) h k = absurd (h refl)
-      none (suc (suc zero)) h k = absurd (k refl)
-      none (suc (suc (suc i))) h k = refl
-
 -- one turn of the loop over the atoms: b is the last variable before atom j's block, A is that atom and top its levels
 pub record Turn (n : ℕ) (es : List Edge) (base : ℕ) (As : List Atom) (j b top : ℕ) (A : Atom) : Type 0 where
   pub low : LowBlocks es n base As

@@ -146,22 +146,21 @@ fn put_end(out: &mut [i32], at: usize, a: usize, v: usize) -> usize
 // One block behind `base`, of `top` levels.
 pub fn put_block(
     out: &mut [i32],
-    at: usize,
     edges: &[u16],
     nodes: usize,
     base: usize,
     top: usize,
     atom: Atom,
 ) -> usize
-    requires { ⌜ Room (blockRow nodes (edgesOf (now edges)) base top (atom .from) (atom .to) (atom .variable)) at (now out) ⌝ }
+    requires { ⌜ Room (blockRow nodes (edgesOf (now edges)) base top (atom .from) (atom .to) (atom .variable)) 0 (now out) ⌝ }
     requires { ⌜ LowBlock (edgesOf (now edges)) nodes base top ⌝ }
-    ensures { λ r. ⌜ Put (blockRow nodes (edgesOf (now (edges .entry))) base top (atom .from) (atom .to) (atom .variable)) at (now (out .entry)) (now (out .exit)) r ⌝ }
+    ensures { λ r. ⌜ Put (blockRow nodes (edgesOf (now (edges .entry))) base top (atom .from) (atom .to) (atom .variable)) 0 (now (out .entry)) (now (out .exit)) r ⌝ }
 {
     let source = wide(atom.from);
     let target = wide(atom.to);
     let variable = wide(atom.variable);
     let step = nodes + edge_count(edges);
-    let at = put_start(out, at, nodes, source, base + 1);
+    let at = put_start(out, 0, nodes, source, base + 1);
     let at = put_levels(out, at, edges, nodes, base, top);
     put_end(out, at, variable, base + 1 + top * step + target)
 }

@@ -5,11 +5,12 @@ mod parts;
 use block::put_block;
 use parts::edge_count;
 use plan::Atom;
+use plan::Kind;
 use plan::Plan;
 use plan::atom_at;
 use plan::wide;
 ghost use mathlib.Core.Path.{_≡_};
-ghost use Prim.Native.Nat.{_≤_};
+ghost use Prim.Native.Nat.{_≤_, min};
 ghost use lib.ListN.{length};
 ghost use Rattle.plan.specs.Tables.{edgesOf, atomsOf, atomOf, planOf, Lent};
 ghost use Rattle.plan.specs.Written.{flat, levels, blockVariables, blockClauses, blockNumbers, blocks};
@@ -31,6 +32,15 @@ pub enum Writing {
     Short(usize),
 }
 
+fn lesser(a: usize, b: usize) -> usize
+    ensures { λ r. ⌜ r ≡ min a b ⌝ }
+{
+    if a < b {
+        return a;
+    }
+    b
+}
+
 // How many levels an atom's block has.
 fn levels_of(nodes: usize, atom: Atom) -> usize
     requires { ⌜ 1 ≤ nodes ⌝ }
@@ -38,17 +48,10 @@ fn levels_of(nodes: usize, atom: Atom) -> usize
 {
     let most = nodes - 1;
     let kind = atom.kind;
-    if kind == 1 {
-        return most;
+    match kind {
+        Kind::Reaches => most,
+        Kind::Within => lesser(wide(atom.bound), most),
     }
-    if kind != 2 {
-        return 0;
-    }
-    let bound = wide(atom.bound);
-    if bound < most {
-        return bound;
-    }
-    most
 }
 
 // How many atoms an atom table holds.
@@ -79,7 +82,7 @@ fn block_numbers(nodes: usize, edges: usize, top: usize) -> usize
     2 * nodes + top * (14 * edges + 6 * nodes) + 6
 }
 
-// The blocks of the atoms, each behind the one before it.
+// The blocks of the atoms, each into the rest of the buffer behind the one before it.
 fn put_blocks(
     out: &mut [i32],
     at: usize,
@@ -100,7 +103,8 @@ fn put_blocks(
     while j < atom_number {
         let atom = atom_at(atoms, j);
         let top = levels_of(nodes, atom);
-        end = put_block(out, end, edges, nodes, last, top, atom);
+        let more = put_block(&mut out[end..], edges, nodes, last, top, atom);
+        end += more;
         last += block_variables(nodes, edge_number, top);
         j += 1;
     }

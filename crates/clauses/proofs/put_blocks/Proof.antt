@@ -8,7 +8,7 @@ use Rattle.plan.specs.Meaning.{Edge, Atom}
 use Rattle.plan.specs.Tables.{edgesOf, atomsOf, atomOf}
 use Rattle.plan.specs.Written.{each, flat, blocks, blockVariables, last}
 use Rattle.clauses.proofs.Filling.{Filling, filling-start, filling-room, filling-turn, filling-end}
-use Rattle.clauses.proofs.Fronts.{put-as, room-as}
+use Rattle.clauses.proofs.Fronts.{put-as, room-as, rest-length, room-tail, put-tail}
 use Rattle.clauses.proofs.Stepping.{before, piece, blocks-each, Turn, next-row, next-before, next-last, next-low, next-limits}
 use Rattle.clauses.proofs.Tabled.{atom-place}
 use Rattle.clauses.proofs.put_blocks.Statement.{statement}
@@ -73,7 +73,10 @@ module _ (c : tie.After-levels-of Inv-loop μ-loop) where
 put-block-requires : tie.Need-put-block-requires Inv-loop μ-loop
 put-block-requires c κs =
     let d = c .before in
-    (room-as (sym (next-row (turn d))) (filling-room (entry d .loop .inv .0) (turn d .inside)), next-low (turn d))
+    (room-tail _ _ (room-as (sym (next-row (turn d))) (filling-room (entry d .loop .inv .0) (turn d .inside))), next-low (turn d))
+
+add-end : tie.Need-add-end Inv-loop μ-loop
+add-end c = let l = entry (c .before .before .before) .loop in omega (arith, rest-length (l .end) (l .out), l .inv .0 .same, l .inv .0 .put .inside)
 
 block-variables-requires : tie.Need-block-variables-requires Inv-loop μ-loop
 block-variables-requires c κs = let d = c .before .before .before in rw (counted d .before .edge-count .ensures) (next-limits (turn d))
@@ -89,7 +92,7 @@ module _ (c : tie.After-block-variables Inv-loop μ-loop) where
 loop-again : tie.Need-loop-again Inv-loop μ-loop
 loop-again c =
     let d = read c in (
-      filling-turn (entry d .loop .inv .0) (turn d .inside) (put-as (next-row (turn d)) (c .before .before .put-block .ensures)),
+      filling-turn (entry d .loop .inv .0) (turn d .inside) (put-as (next-row (turn d)) (put-tail _ _ (omega (arith, entry d .loop .inv .0 .put .inside, entry d .loop .inv .0 .same)) (c .before .before .put-block .ensures))),
       ap (λ v. entry d .loop .last + v) (variables c) ∙ next-before (turn d),
     )
 
@@ -107,7 +110,12 @@ put-blocks-spec =
     loop-holds
     atom-at-requires
     (λ c κs. omega arith)
+    (λ c. omega arith)
+    (λ c. omega arith)
+    (λ c. omega arith)
+    (λ c. omega arith)
     put-block-requires
+    add-end
     block-variables-requires
     (λ c. omega (arith, next-last (turn (read c)), variables c))
     (λ c. omega arith)

@@ -33,7 +33,7 @@ module _ (c : tie.After-edge-count) where
   unfolding blockRow
   row-is = λ i. rowOf (c .edge-count .ensures i) (c .before .before .before .wide .ensures i) (c .before .before .wide2 .ensures i) (c .before .wide3 .ensures i)
 
-  room : Room row (begin .args .at) (begin .args .out .now)
+  room : Room row 0 (begin .args .out .now)
   room = room-as (sym row-is) (begin .pre .0)
 
   low : Early (begin .args .base + 1 + begin .args .top * (begin .args .nodes + c .edge-count .result))
