@@ -6,18 +6,15 @@ use Prim.Native.Nat.{ℕ, _≤_, _<_}
 use native.Mathlib.Omega.{arith}
 use lib.ListN.{length, getD}
 use lib.IntN.{ℤ, pos, natAbs, ℤ-discrete}
-use Rattle.plan.specs.Meaning.{atom}
 use Rattle.plan.specs.Ranged.{maxVariables}
 use Rattle.plan.specs.Search.{Assigned}
-use Rattle.plan.specs.Tables.{atomsOf, planOf, Lent}
+use Rattle.plan.specs.Tables.{planOf, Lent}
 use Rattle.plan.specs.ClauseTable.{Table}
 use Rattle.plan.specs.declared.Plan.{Plan}
-use Rattle.plan.proofs.Tables.{atoms-length}
 use Rattle.plan.proofs.ClauseTable.{lent-table, lent-length}
-use Rattle.plan.proofs.Walks.{mem-at}
 use Rattle.index.specs.Places.{Indexable}
 use Rattle.unit.specs.Clauses.{Ready, HasClauses}
-use Rattle.closing.specs.Atoms.{AtomFits, AtomsReady, HasAtoms}
+use Rattle.closing.specs.Atoms.{HasTables}
 
 -- the lent tables
 module _ (p : Plan) (es bs : List ℕ) (cs : List ℤ) (lent : Lent p es bs cs) where
@@ -35,24 +32,11 @@ module _ (p : Plan) (es bs : List ℕ) (cs : List ℤ) (lent : Lent p es bs cs) 
           go (no n) = omega (arith, lent-table lent .fits k h n .high, lent .ranged .variables)
 
   module _ (a : List ℤ) (s : Assigned (p .variables) a) where
-    sized : Assigned (length a) a
-    sized = subst (λ n. Assigned n a) (sym (s .long)) s
-
     pub lent-ready : Ready cs a
-    lent-ready = record { shape = sized; small = omega (arith, lent .ranged .variables, s .long); table = subst (λ n. Table n cs) (sym (s .long)) (lent-table lent) }
-
-    pub lent-atoms : AtomsReady bs (p .atoms) a
-    lent-atoms = record { shape = sized; small = omega (arith, lent .ranged .variables, s .long); long = lent .atoms; fits = fits }
-      where
-        fits : (k : ℕ) → k < p .atoms → AtomFits (length a) (atom (atomsOf bs) k)
-        fits k h =
-            let m = mem-at (atomsOf bs) _ k (omega (arith, atoms-length bs (p .atoms) (lent .atoms))) in
-            let f = lent .ranged .atom (atom (atomsOf bs) k) m in
-            let n = lent .ranged .nodes in
-            record { from-in = omega (arith, f .from-in); to-in = omega (arith, f .to-in); low = f .low; high = omega (arith, f .high, s .long) }
+    lent-ready = record { shape = subst (λ n. Assigned n a) (sym (s .long)) s; small = omega (arith, lent .ranged .variables, s .long); table = subst (λ n. Table n cs) (sym (s .long)) (lent-table lent) }
 
     pub lent-has-clauses : HasClauses (length a) cs (planOf p es bs cs)
     lent-has-clauses = record { ranged = lent .ranged; size = sym (s .long); clauses = refl }
 
-    pub lent-has-atoms : HasAtoms (length a) bs (planOf p es bs cs)
-    lent-has-atoms = record { ranged = lent .ranged; size = sym (s .long); atoms = refl }
+    pub lent-tables : HasTables es bs a (planOf p es bs cs)
+    lent-tables = record { ranged = lent .ranged; shape = s; edges = refl; atoms = refl }

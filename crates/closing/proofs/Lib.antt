@@ -1,3 +1,3 @@
-pub mod Sweeping
 pub mod Lending
+pub mod Looking
 pub mod Rounds

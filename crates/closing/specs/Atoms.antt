@@ -1,45 +1,49 @@
--- What a look at the atoms does, one graph at a time: the under graph at false, the over graph at true.
+-- What a look at the atoms does: each is asked for a verdict, that it holds (true) or fails (false).
 -- Assumes nothing.
 use mathlib.Core.Path.{_≡_}
-use mathlib.Core.Logic.{_≢_, _⊎_}
 use mathlib.Core.Bool.{Bool, true, false}
 use mathlib.Core.List.{List, List·Memᴰ}
 use Prim.Native.Nat.{ℕ, _*_, _<_, _≤_}
 use lib.ListN.{length}
 use lib.IntN.{ℤ, negℤ}
 use lib.Dec.{T}
-use Rattle.plan.specs.Meaning.{Edge, Atom, PlanFile, Literals, _⊆_, on, off, value, trueIn, add, atom}
-use Rattle.plan.specs.Ranged.{Ranged, EndsFit}
-use Rattle.plan.specs.Closing.{HoldsIn, FailsIn, Clashes}
+use Rattle.plan.specs.Meaning.{Atom, PlanFile, _⊆_, literalOf, trueIn, add, atom}
+use Rattle.plan.specs.Ranged.{Ranged, EndsFit, maxNodes, maxVariables}
+use Rattle.plan.specs.Closing.{Settles}
 use Rattle.plan.specs.Search.{Assigned}
 use Rattle.plan.specs.Tables.{edgesOf, atomsOf}
-use Rattle.walk.specs.Hopping.{graphOf, HopTable, Neighbours}
-use Rattle.walk.specs.declared.Hops.{Hops}
-use Rattle.unit.specs.Onward.{Onward}
-use Rattle.closing.specs.Closed.{Tells}
+use Rattle.walk.specs.Hopping.{Settling}
+use Rattle.closing.specs.Closed.{Looks}
 use Rattle.closing.specs.declared.Step.{Step}
 use Rattle.closing.specs.declared.Step.the-variants.{Clash, Set, Still}
 
--- An atom between nodes below 64, with a variable of an assignment of so many.
-abbrev pub AtomFits : ℕ → Atom → Type 0
-AtomFits variables A = EndsFit 64 variables (A .from) (A .to) (A .variable)
-
--- A table of so many atoms, and an assignment of their variables.
-pub record AtomsReady (bs : List ℕ) (count : ℕ) (a : List ℤ) : Type 0 where
+-- An assignment that has the atom's variable.
+pub record AtomReady (a : List ℤ) (A : Atom) : Type 0 where
   pub shape : Assigned (length a) a
-  pub small : length a ≤ 512
+  pub small : length a ≤ maxVariables
+  pub fits : EndsFit maxNodes (length a) (A .from) (A .to) (A .variable)
+
+-- A table of so many atoms, each with its variable.
+pub record AtomsReady (bs : List ℕ) (count : ℕ) (a : List ℤ) : Type 0 where
   pub long : length bs ≡ count * 5
-  pub fits : (k : ℕ) → k < count → AtomFits (length a) (atom (atomsOf bs) k)
+  pub each : (k : ℕ) → k < count → AtomReady a (atom (atomsOf bs) k)
 
--- The literal that an atom gives by a graph.
-abbrev pub givenBy : Bool → Atom → ℤ
-givenBy false A = on (A .variable)
-givenBy true A = off (A .variable)
+-- The plan files that have these edges and atoms and the variables of a.
+pub record HasTables (es bs : List ℕ) (a : List ℤ) (φ : PlanFile) : Type 0 where
+  pub ranged : Ranged φ
+  pub shape : Assigned (φ .variables) a
+  pub edges : φ .edges ≡ edgesOf es
+  pub atoms : φ .atoms ≡ atomsOf bs
 
--- The atom gives it: it holds, or it fails.
-abbrev pub SaysIn : Bool → PlanFile → Literals → Atom → Type 0
-SaysIn false φ S A = HoldsIn φ S A
-SaysIn true φ S A = FailsIn φ S A
+-- There is one, with so many atoms.
+pub record Ready (es bs : List ℕ) (count : ℕ) (a : List ℤ) : Type 0 where
+  pub file : PlanFile
+  pub has : HasTables es bs a file
+  pub long : length bs ≡ count * 5
+
+-- The literal for a verdict on the atom numbered j is not there.
+abbrev pub Unsaid : List ℕ → Bool → List ℤ → ℕ → Type 0
+Unsaid bs b a j = T (trueIn a (literalOf b (atom (atomsOf bs) j .variable))) → ⊥
 
 -- A literal that a rule gives is added to the assignment v, which is w then.
 abbrev pub Gets : ℤ → List ℤ → List ℤ → Step → Type 0
@@ -47,64 +51,21 @@ Gets l v w Clash = (w ≡ v) × T (trueIn v (negℤ l))
 Gets l v w Set = (w ≡ add v l) × (T (trueIn v l) → ⊥) × (T (trueIn v (negℤ l)) → ⊥)
 Gets l v w Still = (w ≡ v) × T (trueIn v l)
 
--- One atom, by the hops in a graph of v₀: it says nothing and nothing changes, or its literal is given.
-abbrev pub Told : Bool → Atom → Hops → List ℤ → List ℤ → Step → Type 0
-Told over A h v w r = (φ : PlanFile) (v₀ : List ℤ) → HopTable (φ .edges) (graphOf over v₀) (A .from) h
-    → ((SaysIn over φ (trueIn v₀) A → ⊥) × (w ≡ v) × (r ≡ Still)) ⊎ (SaysIn over φ (trueIn v₀) A × Gets (givenBy over A) v w r)
+-- "an atom true in the under graph gives its variable on, one false in the over graph gives it off": what v settles is in w.
+abbrev pub Heard : PlanFile → Bool → List ℤ → List ℤ → Atom → Type 0
+Heard φ b v w A = Settles φ (trueIn v) A b → T (trueIn w (literalOf b (A .variable)))
 
--- The literals of the atoms from number k up to r are there.
-pub record Given (bs : List ℕ) (count : ℕ) (over : Bool) (a : List ℤ) (k r : ℕ) : Type 0 where
-  pub after : k ≤ r
-  pub inside : r ≤ count
-  pub there : (j : ℕ) → k ≤ j → j < r → T (trueIn a (givenBy over (atom (atomsOf bs) j)))
+abbrev pub AllHeard : PlanFile → Bool → List ℤ → List ℤ → Type 0
+AllHeard φ b v w = (A : Atom) → List·Memᴰ A (φ .atoms) → Heard φ b v w A
 
--- No edge's variable changed.
-abbrev pub SameEdges : List Edge → List ℤ → List ℤ → Type 0
-SameEdges es v w = (e : Edge) → List·Memᴰ e es → value w (e .variable) ≡ value v (e .variable)
+-- One atom, by the distances in a graph of an assignment below v.
+abbrev pub Told : Bool → Atom → List ℕ → List ℤ → List ℤ → Step → Type 0
+Told b A d v w r = (φ : PlanFile) → Ranged φ → Assigned (φ .variables) v → List·Memᴰ A (φ .atoms)
+    → (v₀ : List ℤ) → trueIn v₀ ⊆ trueIn v → Settling (φ .edges) v₀ A b d → Looks φ (Heard φ b v₀ w A) v w r
 
--- The plan files that have these atoms and so many variables.
-pub record HasAtoms (variables : ℕ) (bs : List ℕ) (φ : PlanFile) : Type 0 where
-  pub ranged : Ranged φ
-  pub size : φ .variables ≡ variables
-  pub atoms : φ .atoms ≡ atomsOf bs
+-- All atoms, for one verdict and for both.
+abbrev pub Looked : List ℕ → List ℕ → Bool → List ℤ → List ℤ → Step → Type 0
+Looked es bs b v w r = (φ : PlanFile) → HasTables es bs v φ → Looks φ (AllHeard φ b v w) v w r
 
--- A look from v to w, at the atoms from number k up to `next`: what each says by the graph of v₀ is in w, unless there was a clash.
-pub record Swept (φ : PlanFile) (over : Bool) (v₀ v w : List ℤ) (k next : ℕ) (r : Step) : Type 0 where
-  pub onward : Onward φ v w
-  pub same : SameEdges (φ .edges) v w
-  pub tells : Tells (Clashes φ (trueIn v)) v w r
-  pub said : r ≢ Clash → (j : ℕ) → k ≤ j → j < next → SaysIn over φ (trueIn v₀) (atom (φ .atoms) j) → T (trueIn w (givenBy over (atom (φ .atoms) j)))
-
--- The same for every plan file with these atoms and every v₀ whose graph is the one that is known.
-pub record Looked (bs : List ℕ) (over : Bool) (Known : List Edge → List ℤ → Type 0) (v w : List ℤ) (k next : ℕ) (r : Step) : Type 0 where
-  pub shape : Assigned (length v) w
-  pub sweep : (φ : PlanFile) → HasAtoms (length v) bs φ → (v₀ : List ℤ) → trueIn v₀ ⊆ trueIn v → Known (φ .edges) v₀ → Swept φ over v₀ v w k next r
-
--- How the graph is known: by the hops from one node, by the neighbours of each, or by the edges and the assignment.
-abbrev pub ByHops : Bool → ℕ → Hops → List Edge → List ℤ → Type 0
-ByHops over source h es a = HopTable es (graphOf over a) source h
-
-abbrev pub BySets : Bool → List ℕ → List Edge → List ℤ → Type 0
-BySets over sets es a = Neighbours es (graphOf over a) sets
-
-abbrev pub ByEdges : List ℕ → List ℤ → List Edge → List ℤ → Type 0
-ByEdges table v es a = (es ≡ edgesOf table) × (a ≡ v)
-
--- Every atom's literals that the assignment gives are in it.
-abbrev pub AtomsQuiet : PlanFile → List ℤ → Type 0
-AtomsQuiet φ a = (over : Bool) (A : Atom) → List·Memᴰ A (φ .atoms) → SaysIn over φ (trueIn a) A → T (trueIn a (givenBy over A))
-
--- A look at all atoms in both graphs.
-pub record AtomsSeen (φ : PlanFile) (v w : List ℤ) (r : Step) : Type 0 where
-  pub onward : Onward φ v w
-  pub tells : Tells (Clashes φ (trueIn v)) v w r
-  pub quiet : r ≢ Clash → AtomsQuiet φ w
-
-abbrev pub afterSet : Step → Step
-afterSet Clash = Clash
-afterSet Set = Set
-afterSet Still = Set
-
-pub record AllLooked (es bs : List ℕ) (v w : List ℤ) (r : Step) : Type 0 where
-  pub shape : Assigned (length v) w
-  pub seen : (φ : PlanFile) → HasAtoms (length v) bs φ → φ .edges ≡ edgesOf es → AtomsSeen φ v w r
+abbrev pub AllLooked : List ℕ → List ℕ → List ℤ → List ℤ → Step → Type 0
+AllLooked es bs v w r = (φ : PlanFile) → HasTables es bs v φ → Looks φ ((b : Bool) → AllHeard φ b v w) v w r

@@ -1,22 +1,25 @@
+// Closing an assignment: what the atoms say in the graph that settles it, and what the clauses give, in turn until nothing more is given.
 use index::Index;
 use plan::Assignment;
 use plan::Atom;
 use plan::Edge;
 use plan::Plan;
+use walk::Distances;
 ghost use mathlib.Core.Path.{_≡_};
-ghost use Prim.Native.Nat.{_<_, _≤_};
+ghost use Prim.Native.Nat.{_≤_};
 ghost use lib.ListN.{length};
-ghost use Rattle.plan.specs.Ranged.{LiteralFits};
+ghost use Rattle.plan.specs.Places.{First};
+ghost use Rattle.plan.specs.Ranged.{LiteralFits, maxVariables};
 ghost use Rattle.plan.specs.Search.{Assigned, CloseIs};
-ghost use Rattle.plan.specs.Meaning.{trueIn, atom};
-ghost use Rattle.plan.specs.Tables.{edgesOf, atomsOf, clausesOf, atomOf, planOf, Lent};
-ghost use Rattle.walk.specs.Hopping.{Inside, Placed, hopsOf};
+ghost use Rattle.plan.specs.Meaning.{trueIn, literalOf};
+ghost use Rattle.plan.specs.Tables.{edgesOf, clausesOf, atomOf, planOf, Lent};
+ghost use Rattle.walk.specs.Hopping.{Placed};
 ghost use Rattle.index.specs.Places.{Indexed};
-ghost use Rattle.unit.specs.Clauses.{Ready, AllQuiet};
-ghost use Rattle.unit.specs.Queue.{BeginsWith, Since, Known};
-ghost use Rattle.closing.specs.Closed.{closedOf, stepOf};
-ghost use Rattle.closing.specs.Atoms.{AtomFits, AtomsReady, givenBy, Gets, Told, Given, Looked, ByHops, BySets, ByEdges, AllLooked, afterSet};
-ghost use Rattle.closing.specs.Rounds.{Unchanged, PassedOn, Round};
+ghost use Rattle.unit.specs.Clauses.{AllQuiet};
+ghost use Rattle.unit.specs.Queue.{BeginsWith, Known};
+ghost use Rattle.closing.specs.Closed.{closedOf, isClash, andThen};
+ghost use Rattle.closing.specs.Atoms.{AtomReady, AtomsReady, Ready, Unsaid, Gets, Told, Looked, AllLooked};
+ghost use Rattle.closing.specs.Rounds.{Unchanged, Round};
 
 // What a look at the atoms, or a round, does to an assignment.
 pub enum Step {
@@ -25,22 +28,35 @@ pub enum Step {
     Still,
 }
 
-// The same, with the number of the atom at which to go on.
-pub struct Look {
-    pub step: Step,
-    pub next: usize,
+fn is_clash(step: Step) -> bool
+    ensures { λ r. ⌜ r ≡ isClash step ⌝ }
+{
+    match step {
+        Step::Clash => true,
+        Step::Set => false,
+        Step::Still => false,
+    }
 }
 
-fn told(changed: bool) -> Step
-    ensures { λ r. ⌜ r ≡ stepOf changed ⌝ }
+// What two steps do, one behind the other.
+fn and_then(first: Step, second: Step) -> Step
+    ensures { λ r. ⌜ r ≡ andThen first second ⌝ }
 {
-    if changed { Step::Set } else { Step::Still }
+    match first {
+        Step::Clash => Step::Clash,
+        Step::Set => match second {
+            Step::Clash => Step::Clash,
+            Step::Set => Step::Set,
+            Step::Still => Step::Set,
+        },
+        Step::Still => second,
+    }
 }
 
 // Adds a literal that a rule gives.
 fn give(values: &mut [i8], literal: i16) -> Step
     requires { ⌜ Assigned (length (now values)) (now values) ⌝ }
-    requires { ⌜ length (now values) ≤ 512 ⌝ }
+    requires { ⌜ length (now values) ≤ maxVariables ⌝ }
     requires { ⌜ LiteralFits (length (now values)) literal ⌝ }
     ensures { λ r. ⌜ Gets literal (now (values .entry)) (now (values .exit)) r ⌝ }
 {
@@ -55,38 +71,32 @@ fn give(values: &mut [i8], literal: i16) -> Step
     Step::Set
 }
 
-// The literal that an atom gives where it holds in the under graph, or fails in the over graph.
-fn given(atom: Atom, over: bool) -> i16
-    requires { ⌜ atom .variable ≤ 512 ⌝ }
-    ensures { λ r. ⌜ r ≡ givenBy over (atomOf atom) ⌝ }
+// The literal that an atom gives where it holds, or where it fails.
+fn given(atom: Atom, holds: bool) -> i16
+    requires { ⌜ atom .variable ≤ maxVariables ⌝ }
+    ensures { λ r. ⌜ r ≡ literalOf holds (atom .variable) ⌝ }
 {
-    plan::literal_of(plan::wide(atom.variable), !over)
+    plan::literal_of(plan::wide(atom.variable), holds)
 }
 
-// Looks at one atom by the hops from its source.
-fn look_at(atom: Atom, reached: u64, counts: &[u8; 64], over: bool, values: &mut [i8]) -> Step
-    requires { ⌜ Assigned (length (now values)) (now values) ⌝ }
-    requires { ⌜ length (now values) ≤ 512 ⌝ }
-    requires { ⌜ AtomFits (length (now values)) (atomOf atom) ⌝ }
-    ensures { λ _. ⌜ Assigned (length (now (values .entry))) (now (values .exit)) ⌝ }
-    ensures { λ r. ⌜ Told over (atomOf atom) (hopsOf reached (now (counts .entry))) (now (values .entry)) (now (values .exit)) r ⌝ }
+// Whether that literal is there.
+fn is_said(atom: Atom, holds: bool, values: &[i8]) -> bool
+    requires { ⌜ AtomReady (now values) (atomOf atom) ⌝ }
+    ensures { λ r. ⌜ r ≡ trueIn (now (values .entry)) (literalOf holds (atom .variable)) ⌝ }
 {
-    if walk::is_true(atom, reached, counts) == over {
-        return Step::Still;
-    }
-    give(values, given(atom, over))
+    plan::value_of(values, given(atom, holds)) == 1
 }
 
 // The first atom from `k` on whose literal is not there yet; `count` if there is none.
-fn next_to_say(atoms: &[u16], count: usize, k: usize, over: bool, values: &[i8]) -> usize
+fn next_to_say(atoms: &[u16], count: usize, k: usize, holds: bool, values: &[i8]) -> usize
     requires { ⌜ AtomsReady (now atoms) count (now values) ⌝ }
     requires { ⌜ k ≤ count ⌝ }
-    ensures { λ r. ⌜ Given (now (atoms .entry)) count over (now (values .entry)) k r ⌝ }
+    ensures { λ r. ⌜ First (Unsaid (now (atoms .entry)) holds (now (values .entry))) k count r ⌝ }
 {
     let mut at = k;
     while at < count {
         let atom = plan::atom_at(atoms, at);
-        if plan::value_of(values, given(atom, over)) != 1 {
+        if !is_said(atom, holds, values) {
             return at;
         }
         at += 1;
@@ -94,180 +104,71 @@ fn next_to_say(atoms: &[u16], count: usize, k: usize, over: bool, values: &[i8])
     at
 }
 
-// Looks at the atoms from `k` on, as long as they have the source from which these are the hops.
-fn look_along(
-    atoms: &[u16],
-    count: usize,
-    k: usize,
-    source: u16,
-    reached: u64,
-    counts: &[u8; 64],
-    over: bool,
-    values: &mut [i8],
-) -> Look
-    requires { ⌜ AtomsReady (now atoms) count (now values) ⌝ }
-    requires { ⌜ k < count ⌝ }
-    requires { ⌜ atom (atomsOf (now atoms)) k .from ≡ source ⌝ }
-    ensures { λ r. ⌜ (k < r .next) × (r .next ≤ count) ⌝ }
-    ensures { λ r. ⌜ Looked (now (atoms .entry)) over (ByHops over source (hopsOf reached (now (counts .entry)))) (now (values .entry)) (now (values .exit)) k (r .next) (r .step) ⌝ }
+// Asks one atom for a verdict, by the distances from its source in the graph that settles it.
+fn look_at(atom: Atom, distances: &Distances, holds: bool, values: &mut [i8]) -> Step
+    requires { ⌜ AtomReady (now values) (atomOf atom) ⌝ }
+    ensures { λ r. ⌜ Told holds (atomOf atom) (now (distances .entry)) (now (values .entry)) (now (values .exit)) r ⌝ }
 {
-    let mut changed = false;
-    let mut at = k;
+    if walk::is_true(atom, distances) != holds {
+        return Step::Still;
+    }
+    give(values, given(atom, holds))
+}
+
+// Asks all atoms for a verdict, but for those whose literal is there. Atoms of one source behind one another share a walk.
+fn look_for(edges: &[u16], atoms: &[u16], count: usize, holds: bool, values: &mut [i8]) -> Step
+    requires { ⌜ Ready (now edges) (now atoms) count (now values) ⌝ }
+    ensures { λ r. ⌜ Looked (now (edges .entry)) (now (atoms .entry)) holds (now (values .entry)) (now (values .exit)) r ⌝ }
+{
+    let mut at = next_to_say(atoms, count, 0, holds, values);
+    if at == count {
+        return Step::Still;
+    }
+    let sets = walk::neighbours(edges, values, plan::settling_side(holds));
+    let first = plan::atom_at(atoms, at);
+    let mut source = first.from;
+    let mut distances = walk::walk(&sets, plan::wide(source));
+    let mut step = Step::Still;
     while at < count {
         let atom = plan::atom_at(atoms, at);
         if atom.from != source {
-            return Look {
-                step: told(changed),
-                next: at,
-            };
+            source = atom.from;
+            distances = walk::walk(&sets, plan::wide(source));
         }
-        let step = look_at(atom, reached, counts, over, values);
-        match step {
-            Step::Clash => {
-                return Look {
-                    step: Step::Clash,
-                    next: at + 1,
-                };
-            }
-            Step::Set => {
-                changed = true;
-            }
-            Step::Still => {}
+        step = and_then(step, look_at(atom, &distances, holds, values));
+        if is_clash(step) {
+            return step;
         }
-        at += 1;
+        at = next_to_say(atoms, count, at + 1, holds, values);
     }
-    Look {
-        step: told(changed),
-        next: at,
-    }
+    step
 }
 
-// Goes on to the next atom from `k` on that has something to say, and looks at those of its source by one walk.
-fn look_on(
-    atoms: &[u16],
-    count: usize,
-    k: usize,
-    sets: &[u64; 64],
-    over: bool,
-    values: &mut [i8],
-) -> Look
-    requires { ⌜ AtomsReady (now atoms) count (now values) ⌝ }
-    requires { ⌜ k < count ⌝ }
-    ensures { λ r. ⌜ (k < r .next) × (r .next ≤ count) ⌝ }
-    ensures { λ r. ⌜ Looked (now (atoms .entry)) over (BySets over (now (sets .entry))) (now (values .entry)) (now (values .exit)) k (r .next) (r .step) ⌝ }
-{
-    let at = next_to_say(atoms, count, k, over, values);
-    if at == count {
-        return Look {
-            step: Step::Still,
-            next: count,
-        };
-    }
-    let atom = plan::atom_at(atoms, at);
-    let source = atom.from;
-    let hops = walk::walk(sets, plan::wide(source));
-    let counts = hops.counts;
-    look_along(
-        atoms,
-        count,
-        at,
-        source,
-        hops.reached,
-        &counts,
-        over,
-        values,
-    )
-}
-
-// Looks at the atoms from `k` on in the graph of these neighbours.
-fn sweep(
-    atoms: &[u16],
-    count: usize,
-    k: usize,
-    sets: &[u64; 64],
-    over: bool,
-    values: &mut [i8],
-) -> Step
-    requires { ⌜ AtomsReady (now atoms) count (now values) ⌝ }
-    requires { ⌜ k ≤ count ⌝ }
-    ensures { λ r. ⌜ Looked (now (atoms .entry)) over (BySets over (now (sets .entry))) (now (values .entry)) (now (values .exit)) k count r ⌝ }
-{
-    let mut changed = false;
-    let mut at = k;
-    while at < count {
-        let look = look_on(atoms, count, at, sets, over, values);
-        let step = look.step;
-        match step {
-            Step::Clash => {
-                return Step::Clash;
-            }
-            Step::Set => {
-                changed = true;
-            }
-            Step::Still => {}
-        }
-        at = look.next;
-    }
-    told(changed)
-}
-
-// Looks at all atoms in the under graph or in the over graph.
-fn look_at_graph(edges: &[u16], atoms: &[u16], count: usize, over: bool, values: &mut [i8]) -> Step
-    requires { ⌜ AtomsReady (now atoms) count (now values) ⌝ }
-    requires { ⌜ Inside (edgesOf (now edges)) ⌝ }
-    requires { ⌜ Placed (edgesOf (now edges)) (length (now values)) ⌝ }
-    ensures { λ r. ⌜ Looked (now (atoms .entry)) over (ByEdges (now (edges .entry)) (now (values .entry))) (now (values .entry)) (now (values .exit)) 0 count r ⌝ }
-{
-    let first = next_to_say(atoms, count, 0, over, values);
-    if first == count {
-        return Step::Still;
-    }
-    let sets = walk::neighbours(edges, values, over);
-    sweep(atoms, count, first, &sets, over, values)
-}
-
-// A step behind one that set something.
-fn after_set(step: Step) -> Step
-    ensures { λ r. ⌜ r ≡ afterSet step ⌝ }
-{
-    match step {
-        Step::Clash => Step::Clash,
-        Step::Set => Step::Set,
-        Step::Still => Step::Set,
-    }
-}
-
-// Looks at all atoms in both graphs.
+// Asks all atoms for both verdicts.
 fn look_at_atoms(edges: &[u16], atoms: &[u16], count: usize, values: &mut [i8]) -> Step
-    requires { ⌜ AtomsReady (now atoms) count (now values) ⌝ }
-    requires { ⌜ Inside (edgesOf (now edges)) ⌝ }
-    requires { ⌜ Placed (edgesOf (now edges)) (length (now values)) ⌝ }
+    requires { ⌜ Ready (now edges) (now atoms) count (now values) ⌝ }
     ensures { λ r. ⌜ AllLooked (now (edges .entry)) (now (atoms .entry)) (now (values .entry)) (now (values .exit)) r ⌝ }
 {
-    let under = look_at_graph(edges, atoms, count, false, values);
-    match under {
-        Step::Clash => Step::Clash,
-        Step::Set => after_set(look_at_graph(edges, atoms, count, true, values)),
-        Step::Still => look_at_graph(edges, atoms, count, true, values),
+    let first = look_for(edges, atoms, count, true, values);
+    if is_clash(first) {
+        return first;
     }
+    and_then(first, look_for(edges, atoms, count, false, values))
 }
 
 fn copy_of(values: &[i8]) -> [i8; Assignment::MAX]
-    requires { ⌜ length (now values) ≤ 512 ⌝ }
+    requires { ⌜ length (now values) ≤ maxVariables ⌝ }
     ensures { λ r. ⌜ BeginsWith r (now (values .entry)) ⌝ }
 {
     let mut copy = [0i8; Assignment::MAX];
-    let mut i = 0;
-    while i < values.len() {
-        copy[i] = values[i];
-        i += 1;
-    }
+    let n = values.len();
+    plan::copy(&mut copy[..n], values);
     copy
 }
 
 // Whether every edge's variable is as it was.
 fn same_edges(edges: &[u16], before: &[i8; Assignment::MAX], values: &[i8]) -> bool
-    requires { ⌜ length (now values) ≤ 512 ⌝ }
+    requires { ⌜ length (now values) ≤ maxVariables ⌝ }
     requires { ⌜ Placed (edgesOf (now edges)) (length (now values)) ⌝ }
     ensures { λ r. ⌜ Unchanged (now (edges .entry)) (now (before .entry)) (now (values .entry)) r ⌝ }
 {
@@ -284,30 +185,8 @@ fn same_edges(edges: &[u16], before: &[i8; Assignment::MAX], values: &[i8]) -> b
     true
 }
 
-// Adds what the clauses give behind a look at the atoms. 'Still': no edge changed, and another look would say nothing new.
-fn pass_on(
-    edges: &[u16],
-    clauses: &[i16],
-    places: &[u16; Index::TABLE],
-    before: &[i8; Assignment::MAX],
-    values: &mut [i8],
-) -> Step
-    requires { ⌜ Ready (now clauses) (now values) ⌝ }
-    requires { ⌜ Indexed (now clauses) (now places) ⌝ }
-    requires { ⌜ Since (now clauses) (now before) (now values) ⌝ }
-    requires { ⌜ Placed (edgesOf (now edges)) (length (now values)) ⌝ }
-    ensures { λ r. ⌜ PassedOn (now (edges .entry)) (now (clauses .entry)) (now (before .entry)) (now (values .entry)) (now (values .exit)) r ⌝ }
-{
-    if unit::propagate_changes(clauses, places, before, values) {
-        return Step::Clash;
-    }
-    if same_edges(edges, before, values) {
-        return Step::Still;
-    }
-    Step::Set
-}
-
-// Looks at the atoms, and adds what the clauses give where that set something. 'Still': nothing more is given.
+// Looks at the atoms, and adds what the clauses give where that set something. 'Still': nothing more is given. Where no edge changed
+// in the whole round, another look at the atoms would say nothing new.
 fn round(
     plan: Plan,
     edges: &[u16],
@@ -325,10 +204,21 @@ fn round(
     let before = copy_of(values);
     let step = look_at_atoms(edges, atoms, plan.atoms, values);
     match step {
-        Step::Clash => Step::Clash,
-        Step::Set => pass_on(edges, clauses, places, &before, values),
-        Step::Still => Step::Still,
+        Step::Clash => {
+            return Step::Clash;
+        }
+        Step::Still => {
+            return Step::Still;
+        }
+        Step::Set => {}
     }
+    if unit::propagate_changes(clauses, places, &before, values) {
+        return Step::Clash;
+    }
+    if same_edges(edges, &before, values) {
+        return Step::Still;
+    }
+    Step::Set
 }
 
 // Closes a lent assignment by the index of the clauses. `tried` is the literal that was added to a closed set, or 0 where nothing is

@@ -1,3 +1,4 @@
+-- `closing::close`: an index of the clauses, and nothing known of the assignment.
 use borrow.Author.Needs.{needs}
 use Rattle.unit.proofs.Following.{known-nothing}
 use Rattle.closing.proofs.Lending.{lent-indexable}
@@ -12,11 +13,5 @@ close-after-requires c κs =
     let b = c .before .before .before .before .before .before in
     (b .pre .0, (c .before .before .before .index-of .ensures, (b .pre .1, known-nothing _ _)))
 
-same-length : tie.Need-same-length
-same-length c = search needs
-
-returns : tie.Need-returns
-returns c = c .before .close-after .ensures
-
 pub close-spec : {M : Type 1} → statement M
-close-spec = tie.close (tie.spec index-of-requires close-after-requires same-length returns)
+close-spec = tie.close (tie.spec index-of-requires close-after-requires (λ c. search needs) (λ c. c .before .close-after .ensures))

@@ -1,3 +1,4 @@
+-- `closing::close_after`: what the clauses give at first, then rounds, each with fewer open variables, until one is still.
 use mathlib.Core.Path.{_≡_, sym, _∙_, subst}
 use mathlib.Core.Bool.{Bool, true, false}
 use mathlib.Core.List.{List}
@@ -10,13 +11,17 @@ use Rattle.plan.specs.Search.{opens, nothing, found}
 use Rattle.plan.specs.Tables.{planOf}
 use Rattle.unit.specs.Onward.{Onward}
 use Rattle.unit.specs.Clauses.{HasClauses, Ends}
+use Rattle.unit.proofs.Steps.{onward-none, onward-then}
+use Rattle.closing.specs.Rounds.{ClausesQuiet, Round}
+use Rattle.closing.specs.declared.Step.{Step}
+use Rattle.closing.specs.declared.Step.the-variants.{Clash, Set, Still}
 use Rattle.closing.proofs.Lending.{lent-ready, lent-has-clauses}
-use Rattle.closing.proofs.Rounds.{Going, first-round, go-clash, go-still, go-on, go-fewer}
+use Rattle.closing.proofs.Rounds.{all-quiet}
 use Rattle.closing.proofs.close_after.Statement.{statement}
 use Rattle.closing.proofs.close_after.Tie as tie
 
 abbrev Inv-loop : tie.InvT-loop
-Inv-loop plan edges atoms clauses places tried values₀ values = Going (planOf plan edges atoms clauses) values₀ values
+Inv-loop plan edges atoms clauses places tried values₀ values = let φ = planOf plan edges atoms clauses in Onward φ values₀ values × ClausesQuiet φ values
 
 abbrev μ-loop : tie.MeasureT-loop
 μ-loop plan edges atoms clauses places tried values₀ values = opens values
@@ -56,13 +61,13 @@ returns : tie.Need-returns Inv-loop μ-loop
 returns c = let d = c .before .before in (onward d .shape, ends d true (c .if1 .taken) (whole d) (has d))
 
 loop-holds : tie.Need-loop-holds Inv-loop μ-loop
-loop-holds c = let d = c .before .before in first-round (whole d) (given d) (passed d) (onward d) (ends d false (c .if1 .left))
+loop-holds c = let d = c .before .before in (onward-none (whole d) (passed d) (onward d .shape), ends d false (c .if1 .left))
 
 round-requires : tie.Need-round-requires Inv-loop μ-loop
 round-requires c κs =
-    let d = c .before .before .before .before in
-    let g = c .before .loop .inv in
-    (begin d .pre .0, (begin d .pre .1 .0, (g .onward .shape, g .quiet)))
+    let b = begin (c .before .before .before .before) in
+    let i = c .before .loop .inv in
+    (b .pre .0, (b .pre .1 .0, (i .0 .shape, i .1)))
 
 -- after a round
 module _ (c : tie.After-round Inv-loop μ-loop) where
@@ -75,65 +80,39 @@ module _ (c : tie.After-round Inv-loop μ-loop) where
   abbrev after : List ℤ
   after = c .round .last .1 .1 .1 .1 .1 .0
 
-enum-told : tie.Need-enum-told Inv-loop μ-loop
-enum-told c = search needs
+  round : (r : Step) → c .round .result ≡ r → Round (whole first) (turn .loop .values) after r
+  round r e = subst (λ z. Round (whole first) (turn .loop .values) after z) e (c .round .ensures)
+
+  so-far : Onward (whole first) (given first) (turn .loop .values)
+  so-far = onward-then (whole first) (given first) (passed first) (turn .loop .values) (onward first) (turn .loop .inv .0)
 
 returns-2 : tie.Need-returns-2 Inv-loop μ-loop
 returns-2 c =
     let d = c .before .before .before in
-    let f = first d in
-    (d .round .ensures .onward .shape, onward f .back nothing (go-clash (whole f) (passed f) (turn d .loop .values) (after d) (turn d .loop .inv) (d .round .result) (c .enum-told .given .1) (d .round .ensures)))
-
-enum-told-2 : tie.Need-enum-told-2 Inv-loop μ-loop
-enum-told-2 c = search needs
+    let r = round d Clash (c .enum-told .given .1) in
+    (r .onward .shape, so-far d .back nothing (r .tells))
 
 returns-3 : tie.Need-returns-3 Inv-loop μ-loop
 returns-3 c =
     let d = c .before .before .before in
     let f = first d in
-    (d .round .ensures .onward .shape, onward f .back (found (after d)) (go-still (whole f) (passed f) (turn d .loop .values) (after d) (turn d .loop .inv) (d .round .result) (c .enum-told2 .given .1) (d .round .ensures) (begin f .pre .0 .ranged)))
-
-enum-told-3 : tie.Need-enum-told-3 Inv-loop μ-loop
-enum-told-3 c = search needs
+    let r = round d Still (c .enum-told2 .given .1) in
+    let w = after d in
+    (r .onward .shape, so-far d .back (found w) (r .onward .back (found w) (all-quiet (whole f) (begin f .pre .0 .ranged) w (r .onward .shape) (r .tells .0) (r .tells .1))))
 
 loop-less : tie.Need-loop-less Inv-loop μ-loop
-loop-less c =
-    let d = c .before .before .before in
-    let f = first d in
-    go-fewer (whole f) (passed f) (turn d .loop .values) (after d) (turn d .loop .inv) (d .round .result) (c .enum-told3 .given .1) (d .round .ensures)
+loop-less c = round (c .before .before .before) Set (c .enum-told3 .given .1) .tells .0
 
 loop-again : tie.Need-loop-again Inv-loop μ-loop
 loop-again c =
     let d = c .before .before .before in
     let f = first d in
-    go-on (whole f) (passed f) (turn d .loop .values) (after d) (turn d .loop .inv) (d .round .result) (c .enum-told3 .given .1) (d .round .ensures)
-
-same-length : tie.Need-same-length Inv-loop μ-loop
-same-length c = returns c .0 .long ∙ sym (begin (c .before .before) .pre .1 .1 .0 .long)
-
-same-length-2 : tie.Need-same-length-2 Inv-loop μ-loop
-same-length-2 c = returns-2 c .0 .long ∙ sym (begin (first (c .before .before .before)) .pre .1 .1 .0 .long)
-
-same-length-3 : tie.Need-same-length-3 Inv-loop μ-loop
-same-length-3 c = returns-3 c .0 .long ∙ sym (begin (first (c .before .before .before)) .pre .1 .1 .0 .long)
+    let r = round d Set (c .enum-told3 .given .1) in
+    (onward-then (whole f) (passed f) (turn d .loop .values) (after d) (turn d .loop .inv .0) (r .onward), r .tells .1)
 
 pub close-after-spec : {M : Type 1} → statement M
 close-after-spec =
     tie.close
-    (tie.spec
-    Inv-loop
-    μ-loop
-    propagate-requires
-    same-length
-    returns
-    loop-holds
-    round-requires
-    enum-told
-    same-length-2
-    returns-2
-    enum-told-2
-    same-length-3
-    returns-3
-    enum-told-3
-    loop-less
-    loop-again)
+    (tie.spec Inv-loop μ-loop propagate-requires (λ c. search needs) returns loop-holds round-requires (λ c. search needs)
+    (λ c. returns-2 c .0 .long ∙ sym (begin (first (c .before .before .before)) .pre .1 .1 .0 .long)) returns-2 (λ c. search needs)
+    (λ c. returns-3 c .0 .long ∙ sym (begin (first (c .before .before .before)) .pre .1 .1 .0 .long)) returns-3 (λ c. search needs) loop-less loop-again)

@@ -1,28 +1,41 @@
-use mathlib.Core.Path.{sym, _∙_}
+-- `closing::round`: where the look at the atoms changed nothing, or no edge is other than before it, all that the atoms settle is there.
+use mathlib.Core.Path.{_≡_, refl, sym, _∙_, subst}
+use mathlib.Core.Bool.{Bool, true, false}
 use mathlib.Core.List.{List}
-use lib.IntN.{ℤ}
-use Rattle.plan.specs.Search.{Assigned}
-use Rattle.walk.proofs.Lending.{lent-inside, lent-placed}
-use Rattle.unit.specs.Queue.{Since}
-use Rattle.closing.proofs.Lending.{lent-ready, lent-atoms}
-use Rattle.closing.proofs.Rounds.{shape-after, since-atoms, round-clash, round-still, round-set}
 use borrow.Author.Needs.{needs}
+use lib.IntN.{ℤ}
+use lib.ListN.{length}
+use Rattle.plan.specs.Meaning.{PlanFile}
+use Rattle.plan.specs.Search.{Assigned, nothing}
+use Rattle.plan.specs.Tables.{planOf}
+use Rattle.walk.proofs.Lending.{lent-placed}
+use Rattle.unit.specs.Onward.{Onward}
+use Rattle.unit.specs.Clauses.{Ready, HasClauses, Ends}
+use Rattle.unit.specs.Queue.{BeginsWith, Since}
+use Rattle.unit.proofs.Steps.{onward-then}
+use Rattle.closing.specs.Closed.{Looks}
+use Rattle.closing.specs.Atoms.{AllHeard}
+use Rattle.closing.specs.Rounds.{Unchanged}
+use Rattle.closing.specs.declared.Step.{Step}
+use Rattle.closing.specs.declared.Step.the-variants.{Clash, Set, Still}
+use Rattle.closing.proofs.Lending.{lent-ready, lent-tables, lent-has-clauses}
+use Rattle.closing.proofs.Rounds.{same-copy, round-still, round-set, round-same}
 use Rattle.closing.proofs.round.Statement.{statement}
 use Rattle.closing.proofs.round.Tie as tie
 
-copy-of-requires : tie.Need-copy-of-requires
-copy-of-requires c κs =
-    let b = c .before .before .before in
-    let t = b .args in
-    lent-ready (t .plan) (t .edges .now) (t .atoms .now) (t .clauses .now) (b .pre .0) (t .values .now) (b .pre .1 .1 .0) .small
+-- the plan file that is lent
+module _ (b : tie.Start) where
+  abbrev whole : PlanFile
+  whole = planOf (b .args .plan) (b .args .edges .now) (b .args .atoms .now) (b .args .clauses .now)
 
-look-at-atoms-requires : tie.Need-look-at-atoms-requires
-look-at-atoms-requires c κs =
-    let b = c .before .before .before .before .before in
-    let t = b .args in (
-      lent-atoms (t .plan) (t .edges .now) (t .atoms .now) (t .clauses .now) (b .pre .0) (t .values .now) (b .pre .1 .1 .0),
-      (lent-inside (b .pre .0), lent-placed (b .pre .0) _ (b .pre .1 .1 .0 .long)),
-    )
+  abbrev given : List ℤ
+  given = b .args .values .now
+
+  shape : Assigned (whole .variables) given
+  shape = b .pre .1 .1 .0
+
+  ready : (a : List ℤ) → Assigned (whole .variables) a → Ready (b .args .clauses .now) a
+  ready a s = lent-ready (b .args .plan) (b .args .edges .now) (b .args .atoms .now) (b .args .clauses .now) (b .pre .0) a s
 
 -- after the look at the atoms
 module _ (c : tie.After-look-at-atoms) where
@@ -35,73 +48,106 @@ module _ (c : tie.After-look-at-atoms) where
   abbrev copy : List ℤ
   copy = c .before .before .copy-of .result
 
-  shape : Assigned (begin .args .plan .variables) between
-  shape = shape-after _ (begin .args .values .now) between (begin .pre .1 .1 .0) (c .look-at-atoms .ensures .shape)
+  begins : BeginsWith copy (given begin)
+  begins = c .before .before .copy-of .ensures
 
-  since : Since (begin .args .clauses .now) copy between
-  since =
-      let t = begin .args in
-      since-atoms (t .plan) (t .edges .now) (t .atoms .now) (t .clauses .now) (begin .pre .0) (t .values .now) (begin .pre .1 .1 .0) (begin .pre .1 .1 .1) between (c .look-at-atoms .result) (c .look-at-atoms .ensures)
-      copy (c .before .before .copy-of .ensures)
-
-enum-told : tie.Need-enum-told
-enum-told c = search needs
-
-enum-told-2 : tie.Need-enum-told-2
-enum-told-2 c = search needs
-
-pass-on-requires : tie.Need-pass-on-requires
-pass-on-requires c κs =
-    let d = c .before .before .before .before .before in
-    let t = begin d .args in (
-      lent-ready (t .plan) (t .edges .now) (t .atoms .now) (t .clauses .now) (begin d .pre .0) (between d) (shape d),
-      (begin d .pre .1 .0, (since d, lent-placed (begin d .pre .0) _ (shape d .long))),
-    )
-
-enum-told-3 : tie.Need-enum-told-3
-enum-told-3 c = search needs
+  looks : (r : Step) → c .look-at-atoms .result ≡ r → Looks (whole begin) ((b : Bool) → AllHeard (whole begin) b (given begin) between) (given begin) between r
+  looks r e =
+      let a = begin .args in
+      subst (λ z. Looks (whole begin) ((b : Bool) → AllHeard (whole begin) b (given begin) between) (given begin) between z) e
+      (c .look-at-atoms .ensures (whole begin) (lent-tables (a .plan) (a .edges .now) (a .atoms .now) (a .clauses .now) (begin .pre .0) (given begin) (shape begin)))
 
 returns : tie.Need-returns
-returns c =
-    let d = c .before .before .before in
-    let t = begin d .args in
-    round-clash (t .plan) (t .edges .now) (t .atoms .now) (t .clauses .now) (begin d .pre .0) (t .values .now) (begin d .pre .1 .1 .0) (begin d .pre .1 .1 .1) (between d) (d .look-at-atoms .result) (d .look-at-atoms .ensures) (c .enum-told .given .1)
+returns c = let x = looks (c .before .before .before) Clash (c .enum-told .given .1) in record { onward = x .onward; tells = x .tells }
 
 returns-2 : tie.Need-returns-2
 returns-2 c =
-    let d = c .before .before .before .before .before .before .before in
-    let t = begin d .args in
-    round-set (t .plan) (t .edges .now) (t .atoms .now) (t .clauses .now) (begin d .pre .0) (t .values .now) (begin d .pre .1 .1 .0) (begin d .pre .1 .1 .1) (between d) (d .look-at-atoms .result) (d .look-at-atoms .ensures) (c .before .before .before .before .enum-told2 .given .1)
-    (copy d) (d .before .before .copy-of .ensures) (c .before .pass-on .last .1 .1 .1 .1 .0) (c .before .pass-on .result) (c .before .pass-on .ensures)
+    let d = c .before .before .before in
+    round-still (whole (begin d)) (begin d .pre .0 .ranged) (given (begin d)) (between d) (begin d .pre .1 .1 .1) (looks d Still (c .enum-told2 .given .1))
+
+-- it set something
+module _ (c : tie.After-enum-told3) where
+  abbrev look : tie.After-look-at-atoms
+  look = c .before .before .before
+
+  set : Looks (whole (begin look)) ((b : Bool) → AllHeard (whole (begin look)) b (given (begin look)) (between look)) (given (begin look)) (between look) Set
+  set = looks look Set (c .enum-told3 .given .1)
+
+  since : Since (begin look .args .clauses .now) (copy look) (between look)
+  since = record {
+    kept = record {
+      before = given (begin look);
+      begins = begins look;
+      shape = subst (λ n. Assigned n (given (begin look))) (sym (set .onward .shape .long)) (shape (begin look));
+      above = set .onward .above;
+    };
+    quiet = begin look .pre .1 .1 .1;
+  }
+
+propagate-changes-requires : tie.Need-propagate-changes-requires
+propagate-changes-requires c κs =
+    let d = c .before .before in
+    let b = begin (look d) in
+    (ready b (between (look d)) (set d .onward .shape), (b .pre .1 .0, since d))
+
+-- after what the clauses give
+module _ (c : tie.After-propagate-changes) where
+  abbrev more : tie.After-enum-told3
+  more = c .before .before .before
+
+  abbrev first : tie.Start
+  first = begin (look more)
+
+  abbrev after : List ℤ
+  after = c .propagate-changes .last .1 .1 .1 .0
+
+  has : HasClauses (length (between (look more))) (first .args .clauses .now) (whole first)
+  has = lent-has-clauses (first .args .plan) (first .args .edges .now) (first .args .atoms .now) (first .args .clauses .now) (first .pre .0) (between (look more)) (set more .onward .shape)
+
+  next : Onward (whole first) (between (look more)) after
+  next = c .propagate-changes .ensures .steps .onward (whole first) has
+
+  ends : (b : Bool) → c .propagate-changes .result ≡ b → Ends (first .args .clauses .now) (between (look more)) after b
+  ends b e = subst (λ r. Ends (first .args .clauses .now) (between (look more)) after r) e (c .propagate-changes .ensures .ends)
 
 returns-3 : tie.Need-returns-3
 returns-3 c =
-    let d = c .before .before .before in
-    let t = begin d .args in
-    round-still (t .plan) (t .edges .now) (t .atoms .now) (t .clauses .now) (begin d .pre .0) (t .values .now) (begin d .pre .1 .1 .0) (begin d .pre .1 .1 .1) (between d) (d .look-at-atoms .result) (d .look-at-atoms .ensures) (c .enum-told3 .given .1)
+    let d = c .before .before in
+    let x = set (more d) .onward in
+    record { onward = onward-then (whole (first d)) (given (first d)) (between (look (more d))) (after d) x (next d); tells = x .back nothing (ends d true (c .if1 .taken) (whole (first d)) (has d)) }
 
-same-length : tie.Need-same-length
-same-length c = returns c .onward .shape .long ∙ sym (begin (c .before .before .before) .pre .1 .1 .0 .long)
+same-edges-requires : tie.Need-same-edges-requires
+same-edges-requires c κs =
+    let d = c .before .before .before .before in
+    (ready (first d) (after d) (next d .shape) .small, lent-placed (first d .pre .0) _ (next d .shape .long))
 
-same-length-2 : tie.Need-same-length-2
-same-length-2 c = returns-2 c .onward .shape .long ∙ sym (begin (c .before .before .before .before .before .before .before) .pre .1 .1 .0 .long)
+-- no clash
+module _ (c : tie.After-same-edges) where
+  abbrev passed : tie.After-propagate-changes
+  passed = c .before .before .before .before .before
 
-same-length-3 : tie.Need-same-length-3
-same-length-3 c = returns-3 c .onward .shape .long ∙ sym (begin (c .before .before .before) .pre .1 .1 .0 .long)
+  same : c .same-edges .result ≡ true → Unchanged (first passed .args .edges .now) (given (first passed)) (after passed) true
+  same e =
+      let b = first passed in
+      same-copy (b .args .edges .now) (given b) (copy (look (more passed))) (after passed) (lent-placed (b .pre .0) _ (shape b .long)) (begins (look (more passed)))
+      (subst (λ r. Unchanged (b .args .edges .now) (copy (look (more passed))) (after passed) r) e (c .same-edges .ensures))
+
+returns-4 : tie.Need-returns-4
+returns-4 c =
+    let s = c .before in
+    let d = passed s in
+    round-same (whole (first d)) (first d .pre .0 .ranged) (given (first d)) (between (look (more d))) (after d) (set (more d)) (next d) (ends d false (s .before .before .before .if1 .left)) (same s (c .if2 .taken))
+
+returns-5 : tie.Need-returns-5
+returns-5 c =
+    let s = c .before in
+    let d = passed s in
+    round-set (whole (first d)) (first d .pre .0 .ranged) (given (first d)) (between (look (more d))) (after d) (set (more d)) (next d) (ends d false (s .before .before .before .if1 .left))
 
 pub round-spec : {M : Type 1} → statement M
 round-spec =
     tie.close
-    (tie.spec
-    copy-of-requires
-    look-at-atoms-requires
-    enum-told
-    enum-told-2
-    pass-on-requires
-    enum-told-3
-    same-length
-    returns
-    same-length-2
-    returns-2
-    same-length-3
-    returns-3)
+    (tie.spec (λ c κs. let b = c .before .before .before in ready b (given b) (shape b) .small)
+    (λ c κs. let b = c .before .before .before .before .before in record { file = whole b; has = lent-tables (b .args .plan) (b .args .edges .now) (b .args .atoms .now) (b .args .clauses .now) (b .pre .0) (given b) (shape b); long = b .pre .0 .atoms })
+    (λ c. search needs) (λ c. search needs) returns (λ c. search needs) (λ c. search needs) returns-2 (λ c. search needs) propagate-changes-requires (λ c. search needs) returns-3
+    same-edges-requires (λ c. search needs) returns-4 (λ c. search needs) returns-5)

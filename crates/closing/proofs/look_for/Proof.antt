@@ -1,0 +1,203 @@
+-- `closing::look_for`: the atoms before the place are heard, and the distances are those from the source in the graph that settles the verdict.
+use mathlib.Core.Path.{_≡_, refl, sym, ap, _∙_, subst}
+use mathlib.Core.Logic.{⊎-elim}
+use mathlib.Core.List.{List}
+use Prim.Native.Nat.{ℕ, _+_, _-_, _≤_, _<_}
+use native.Mathlib.Omega.{arith}
+use borrow.Author.Needs.{needs}
+use lib.IntN.{ℤ}
+use lib.ListN.{length}
+use Rattle.plan.specs.Meaning.{Atom, atom}
+use Rattle.plan.specs.Places.{First}
+use Rattle.plan.specs.Tables.{atomsOf, atomOf}
+use Rattle.walk.specs.Hopping.{Walked}
+use Rattle.walk.proofs.Truths.{so}
+use Rattle.unit.specs.Onward.{Onward}
+use Rattle.closing.specs.Atoms.{AtomReady, Ready, Unsaid, Told}
+use Rattle.closing.specs.declared.Step.the-variants.{Still}
+use Rattle.closing.proofs.Looking.{ready-on, ready-atoms, ready-inside, ready-placed, looks-clash, Sweeps, sweep-start, sweep-past, sweep-one, sweep-end, settles-by}
+use Rattle.closing.proofs.look_for.Statement.{statement}
+use Rattle.closing.proofs.look_for.Tie as tie
+
+abbrev Inv-loop : tie.InvT-loop
+Inv-loop edges atoms count holds values₀ at₀ sets source₀ distances₀ step₀ values at source distances step =
+    (at ≤ count) × Walked sets source distances × Sweeps edges atoms holds values₀ values at step
+
+abbrev μ-loop : tie.MeasureT-loop
+μ-loop edges atoms count holds values₀ at₀ sets source₀ distances₀ step₀ values at source distances step = count - at
+
+-- the first atom with something to say
+module _ (c : tie.After-next-to-say Inv-loop μ-loop) where
+  abbrev begin : tie.Start Inv-loop μ-loop
+  begin = c .before .before .before .before
+
+  abbrev given : List ℤ
+  given = begin .args .values .now
+
+  first : First (Unsaid (begin .args .atoms .now) (begin .args .holds) given) 0 (begin .args .count) (c .next-to-say .result)
+  first = c .next-to-say .ensures
+
+  start : Sweeps (begin .args .edges .now) (begin .args .atoms .now) (begin .args .holds) given given (c .next-to-say .result) Still
+  start = sweep-past (begin .args .holds) given given 0 (c .next-to-say .result) Still (first .before) (sweep-start (begin .args .holds) given)
+
+returns : tie.Need-returns Inv-loop μ-loop
+returns c =
+    let d = c .before in
+    let b = begin d in
+    sweep-end (b .args .holds) (given d) (given d) (b .args .count) (d .next-to-say .result) Still (b .pre .long) (omega (arith, c .if1 .taken)) (start d)
+
+neighbours-requires : tie.Need-neighbours-requires Inv-loop μ-loop
+neighbours-requires c κs = let b = begin (c .before .before .before) in (ready-inside (b .pre), ready-placed (b .pre))
+
+-- the neighbour sets are there, and so is an atom
+module _ (c : tie.After-neighbours Inv-loop μ-loop) where
+  abbrev found : tie.After-next-to-say Inv-loop μ-loop
+  found = c .before .before .before .before
+
+  abbrev number : ℕ
+  number = found .next-to-say .result
+
+  inside : number < begin found .args .count
+  inside = omega (arith, first found .inside, c .before .before .before .if1 .left)
+
+  first-from : atom (atomsOf (begin found .args .atoms .now)) number .from < 64
+  first-from = ready-atoms (begin found .pre) .each number inside .fits .from-in
+
+atom-at-requires : tie.Need-atom-at-requires Inv-loop μ-loop
+atom-at-requires c κs = omega (arith, begin (found c) .pre .long, inside c)
+
+walk-requires : tie.Need-walk-requires Inv-loop μ-loop
+walk-requires c κs =
+    let a = c .before .before in
+    omega (arith, c .wide .ensures, ap (λ (A : Atom). A .from) (a .atom-at .ensures), first-from (a .before))
+
+loop-holds : tie.Need-loop-holds Inv-loop μ-loop
+loop-holds c =
+    let n = c .before .before .before .before in
+    (first (found n) .inside, subst (λ s. Walked (n .neighbours .result) s (c .walk .result)) (c .before .wide .ensures) (c .walk .ensures), start (found n))
+
+-- a turn of the loop
+module _ (c : tie.At-loop Inv-loop μ-loop) where
+  abbrev sets : tie.After-neighbours Inv-loop μ-loop
+  sets = c .before .before .before .before .before
+
+  abbrev begun : tie.Start Inv-loop μ-loop
+  begun = begin (found sets)
+
+  abbrev table : List ℕ
+  table = begun .args .atoms .now
+
+  so-far : Onward (begun .pre .file) (given (found sets)) (c .loop .values)
+  so-far = c .loop .inv .2 (begun .pre .file) (begun .pre .has) .onward
+
+  ready : Ready (begun .args .edges .now) table (begun .args .count) (c .loop .values)
+  ready = ready-on (begun .pre) so-far
+
+-- its atom
+module _ (c : tie.After-atom-at2 Inv-loop μ-loop) where
+  abbrev turn : tie.At-loop Inv-loop μ-loop
+  turn = c .before .before
+
+  abbrev this : Atom
+  this = atom (atomsOf (table turn)) (turn .loop .at)
+
+  from-is : c .atom-at2 .result .from ≡ this .from
+  from-is = ap (λ (A : Atom). A .from) (c .atom-at2 .ensures)
+
+  this-ready : AtomReady (turn .loop .values) this
+  this-ready = ready-atoms (ready turn) .each (turn .loop .at) (c .before .loop-test .taken)
+
+walk-requires-2 : tie.Need-walk-requires-2 Inv-loop μ-loop
+walk-requires-2 c κs =
+    let a = c .before .before .before .before in
+    omega (arith, c .wide2 .ensures, from-is a, this-ready a .fits .from-in)
+
+-- the distances from its source
+walked-as : (sets : List ℕ) (s t : ℕ) (d e : List ℕ) → s ≡ t → d ≡ e → Walked sets t e → Walked sets s d
+walked-as sets s t d e p q w = rw (p, q) w
+
+module _ (c : tie.Joined2 Inv-loop μ-loop) where
+  abbrev seen : tie.After-atom-at2 Inv-loop μ-loop
+  seen = c .before .before
+
+  walked : Walked (sets (turn seen) .neighbours .result) (c .if2 .source) (c .if2 .distances)
+  walked =
+      let n = sets (turn seen) .neighbours .result in
+      ⊎-elim (λ w. walked-as n _ _ _ _ (w .4 ∙ sym (w .2 .ensures)) (w .5) (w .3 .ensures)) (λ w. walked-as n _ _ _ _ (w .1) (w .2) (turn seen .loop .inv .1)) (c .if2 .came)
+
+  source-is : c .if2 .source ≡ this seen .from
+  source-is = ⊎-elim (λ w. w .4 ∙ from-is seen) (λ w. w .1 ∙ sym (w .0 .left) ∙ from-is seen) (c .if2 .came)
+
+look-at-requires : tie.Need-look-at-requires Inv-loop μ-loop
+look-at-requires c κs =
+    let a = seen (c .before .before) in
+    subst (AtomReady (turn a .loop .values)) (sym (a .atom-at2 .ensures)) (this-ready a)
+
+-- the look at it
+module _ (c : tie.After-is-clash Inv-loop μ-loop) where
+  abbrev look : tie.After-look-at Inv-loop μ-loop
+  look = c .before .before .before
+
+  abbrev joined : tie.Joined2 Inv-loop μ-loop
+  joined = look .before .before .before
+
+  abbrev its : tie.At-loop Inv-loop μ-loop
+  its = turn (seen joined)
+
+  abbrev after : List ℤ
+  after = look .look-at .last .1 .1 .1 .0
+
+  swept : Sweeps (begun its .args .edges .now) (table its) (begun its .args .holds) (given (found (sets its))) after (its .loop .at + 1) (c .before .and-then .result)
+  swept =
+      let n = sets its in
+      let b = begun its in
+      let d = joined .if2 .distances in
+      let r = look .look-at .result in
+      subst (λ z. Sweeps (b .args .edges .now) (table its) (b .args .holds) (given (found n)) after (its .loop .at + 1) z) (sym (c .before .and-then .ensures))
+      (sweep-one (b .args .holds) (given (found n)) (its .loop .values) after (b .args .count) (its .loop .at) d (its .loop .step) r (b .pre .long) (seen joined .before .loop-test .taken)
+      (settles-by (b .args .holds) (given (found n)) (n .before .settling-side .result) (n .neighbours .result) (this (seen joined)) (joined .if2 .source) d (n .before .settling-side .ensures) (n .neighbours .ensures) (walked joined) (source-is joined))
+      (subst (λ A. Told (b .args .holds) A d (its .loop .values) after r) (seen joined .atom-at2 .ensures) (look .look-at .ensures)) (its .loop .inv .2))
+
+  kept : Onward (begun its .pre .file) (given (found (sets its))) after
+  kept = swept (begun its .pre .file) (begun its .pre .has) .onward
+
+returns-2 : tie.Need-returns-2 Inv-loop μ-loop
+returns-2 c = λ φ f. let d = c .before in looks-clash φ (given (found (sets (its d)))) (after d) (d .before .and-then .result) (so (d .is-clash .ensures) (c .if3 .taken)) (swept d φ f)
+
+next-to-say-requires-2 : tie.Need-next-to-say-requires-2 Inv-loop μ-loop
+next-to-say-requires-2 c κs =
+    let d = c .before .before in
+    (ready-atoms (ready-on (begun (its d) .pre) (kept d)), omega (arith, seen (joined d) .before .loop-test .taken))
+
+loop-again : tie.Need-loop-again Inv-loop μ-loop
+loop-again c =
+    let d = c .before .before .before in
+    let n = c .next-to-say2 in
+    let b = begun (its d) in
+    (n .ensures .inside, walked (joined d), sweep-past (b .args .holds) (given (found (sets (its d)))) (after d) (its d .loop .at + 1) (n .result) (d .before .and-then .result) (n .ensures .before) (swept d))
+
+returns-3 : tie.Need-returns-3 Inv-loop μ-loop
+returns-3 c =
+    let t = c .before in
+    let b = begun t in
+    sweep-end (b .args .holds) (given (found (sets t))) (t .loop .values) (b .args .count) (t .loop .at) (t .loop .step) (b .pre .long) (c .loop-test .left) (t .loop .inv .2)
+
+same-length-2 : tie.Need-same-length-2 Inv-loop μ-loop
+same-length-2 c = kept (c .before) .shape .long ∙ sym (begun (its (c .before)) .pre .has .shape .long)
+
+same-length-3 : tie.Need-same-length-3 Inv-loop μ-loop
+same-length-3 c = so-far (c .before) .shape .long ∙ sym (begun (c .before) .pre .has .shape .long)
+
+loop-less : tie.Need-loop-less Inv-loop μ-loop
+loop-less c = let n = c .next-to-say2 .ensures in omega (arith, n .after, n .inside)
+
+add-next-to-say : tie.Need-add-next-to-say Inv-loop μ-loop
+add-next-to-say c = let h = seen (joined (c .before)) .before .loop-test .taken in let f = begun (its (c .before)) .fits .count in search needs
+
+pub look-for-spec : {M : Type 1} → statement M
+look-for-spec =
+    tie.close
+    (tie.spec
+    Inv-loop μ-loop (λ c κs. (ready-atoms (c .before .before .before .pre), omega arith)) (λ c. search needs) returns (λ c κs. tt) neighbours-requires atom-at-requires (λ c κs. tt) walk-requires loop-holds
+    (λ c κs. omega (arith, begun (c .before) .pre .long, c .loop-test .taken)) (λ c κs. tt) walk-requires-2 look-at-requires (λ c κs. tt) (λ c κs. tt) same-length-2 returns-2
+    add-next-to-say next-to-say-requires-2 loop-less loop-again same-length-3 returns-3)
