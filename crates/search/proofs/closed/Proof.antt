@@ -1,3 +1,4 @@
+-- The first n places of the assignment, closed in place.
 use mathlib.Core.Path.{_≡_, sym, ap, subst}
 use Prim.Native.Nat.{_≤_}
 use native.Mathlib.Omega.{arith}
@@ -61,11 +62,4 @@ returns c =
     (subst (λ l. CloseIs whole l (closedOf (k .result) (k .last .1 .1 .1 .1 .1 .1 .0))) e (k .ensures .1))
 
 pub closed-spec : {M : Type 1} → statement M
-closed-spec =
-    tie.close
-    (tie.spec
-    wide-requires
-    array-borrow-prefix-values
-    slice-aggregate-close-after
-    close-after-requires
-    returns)
+closed-spec = tie.close (tie.spec wide-requires array-borrow-prefix-values slice-aggregate-close-after close-after-requires returns)

@@ -110,19 +110,5 @@ returns-3 c = record { searched = searched (c .before .before) _ (c .enum-told3 
 
 pub search-spec : {M : Type 1} → statement M
 search-spec =
-    tie.close
-    (tie.spec
-    index-of-requires
-    all-open-requires
-    settle-requires
-    enum-told
-    wide-requires
-    array-share-prefix-values
-    slice-aggregate-copy
-    copy-requires
-    enum-told-2
-    enum-told-3
-    same-length
-    returns
-    returns-2
-    returns-3)
+    tie.close (tie.spec index-of-requires all-open-requires settle-requires enum-told wide-requires array-share-prefix-values slice-aggregate-copy copy-requires
+    enum-told-2 enum-told-3 same-length returns returns-2 returns-3)

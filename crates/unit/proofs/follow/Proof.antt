@@ -1,3 +1,4 @@
+-- The clauses that hold the opposite of one literal, place after place: those from the next place on are left.
 use mathlib.Core.Path.{_≡_, sym, subst, _∙_, ap}
 use mathlib.Core.List.{List}
 use Prim.Native.Nat.{_+_, _-_, _≤_, _<_}
@@ -128,21 +129,5 @@ same-length-2 c = c .before .loop .inv .looks .steps .shape .long
 
 pub follow-spec : {M : Type 1} → statement M
 follow-spec =
-    tie.close
-    (tie.spec
-    Inv-loop
-    μ-loop
-    mul-opposite
-    element-copy-out-opposite
-    opposite-requires
-    first-place-requires
-    loop-holds
-    start-of-requires
-    apply-requires
-    same-length
-    returns
-    next-place-requires
-    loop-less
-    loop-again
-    same-length-2
-    returns-2)
+    tie.close (tie.spec Inv-loop μ-loop mul-opposite element-copy-out-opposite opposite-requires first-place-requires loop-holds start-of-requires
+    apply-requires same-length returns next-place-requires loop-less loop-again same-length-2 returns-2)
