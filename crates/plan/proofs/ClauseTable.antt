@@ -1,7 +1,7 @@
 -- The clauses of the flat table: one behind the other, each where it stands, and one around each place.
 -- Assumes nothing.
 use mathlib.Core.Path.{_≡_, refl, sym, subst, _∙_, ap}
-use mathlib.Core.Logic.{_⊎_, inl, inr, _≢_}
+use mathlib.Core.Logic.{_⊎_, inl, inr, _≢_, ⊎-elim}
 use mathlib.Core.List.{List, [], _∷_, _++_, List·Memᴰ, List·Memᴰ·head, List·Memᴰ·tail, List·Memᴰ·cases-cons, List·Memᴰ·append-cases, List·Memᴰ·not-nil}
 use Prim.Native.Nat.{ℕ, zero, suc, _+_, _-_, _≤_, _<_}
 use native.Mathlib.Numerals.{add-one}
@@ -54,16 +54,9 @@ flat-ended (C ∷ Cs) =
 flat-literal : (Cs : List (List ℤ)) (l : ℤ) → List·Memᴰ l (flat Cs) → l ≢ pos 0 → (C : List ℤ) × List·Memᴰ C Cs × List·Memᴰ l C
 unfolding flat
 flat-literal [] l m n = absurd (List·Memᴰ·not-nil m)
-flat-literal (C ∷ Cs) l m n = go (flat-literal Cs l) (List·Memᴰ·append-cases C m)
-  where
-    go : (List·Memᴰ l (flat Cs) → l ≢ pos 0 → (D : List ℤ) × List·Memᴰ D Cs × List·Memᴰ l D) → List·Memᴰ l C ⊎ List·Memᴰ l (pos 0 ∷ flat Cs)
-        → (D : List ℤ) × List·Memᴰ D (C ∷ Cs) × List·Memᴰ l D
-    go r (inl i) = (C, List·Memᴰ·head refl, i)
-    go r (inr i) = on (List·Memᴰ·cases-cons i)
-      where
-        on : (l ≡ pos 0) ⊎ List·Memᴰ l (flat Cs) → (D : List ℤ) × List·Memᴰ D (C ∷ Cs) × List·Memᴰ l D
-        on (inl e) = absurd (n e)
-        on (inr j) = let q = r j n in (q .0, List·Memᴰ·tail (q .1), q .2)
+flat-literal (C ∷ Cs) l m n =
+    ⊎-elim (λ i. (C, List·Memᴰ·head refl, i))
+    (λ i. ⊎-elim (λ e. absurd (n e)) (λ j. let q = flat-literal Cs l j n in (q .0, List·Memᴰ·tail (q .1), q .2)) (List·Memᴰ·cases-cons i)) (List·Memᴰ·append-cases C m)
 
 -- what the reader guarantees of it
 module _ {p : Plan} {es bs : List ℕ} {cs : List ℤ} (lent : Lent p es bs cs) where

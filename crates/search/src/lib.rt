@@ -197,17 +197,6 @@ pub enum Found {
     Undecided(u32),
 }
 
-// Writes a plan into the result.
-fn write(plan: Plan, a: Assignment, result: &mut [i8])
-    requires { ⌜ plan .variables ≤ maxVariables ⌝ }
-    requires { ⌜ length (now result) ≡ plan .variables ⌝ }
-    ensures { λ _. ⌜ now (result .exit) ≡ take (plan .variables) (a .values) ⌝ }
-{
-    let values = a.values;
-    let n = plan::wide(plan.variables);
-    plan::copy(result, &values[..n]);
-}
-
 // Searches for the first plan from all open, with at most `budget` branchings. The result is written for a plan only.
 pub fn search(
     plan: Plan,
@@ -230,7 +219,9 @@ pub fn search(
     match verdict {
         Verdict::Plan => {
             let held = outcome.plan;
-            write(plan, held, result);
+            let values = held.values;
+            let n = plan::wide(plan.variables);
+            plan::copy(result, &values[..n]);
             Found::Plan(count)
         }
         Verdict::Impossible => Found::Impossible(count),

@@ -1,12 +1,12 @@
 -- A quiet clause stays quiet until one of its literals becomes false; and what one literal more makes true.
 -- Assumes nothing.
-use mathlib.Core.Path.{_≡_, sym, subst, _∙_}
+use mathlib.Core.Path.{_≡_, sym, subst, ap, _∙_}
 use mathlib.Core.Logic.{_⊎_, inl, inr, _≢_, ⊎-elim}
 use mathlib.Core.Bool.{not, _&&_, _||_}
 use mathlib.Core.List.{List, List·Memᴰ}
-use Prim.Native.Nat.{_≤_}
-use lib.ListN.{length}
-use lib.IntN.{ℤ, negℤ, natAbs, ℤ-discrete}
+use Prim.Native.Nat.{ℕ, _≤_, _<_}
+use lib.ListN.{length, getD}
+use lib.IntN.{ℤ, pos, negℤ, negℤ-negℤ, natAbs, ℤ-discrete}
 use lib.Dec.{T, T-not, not-T}
 use Rattle.plan.specs.Meaning.{Literals, _⊆_, trueIn, add}
 use Rattle.plan.proofs.Bools.{T?, any-or-none, and-both, and-left, and-right, or-cases, or-left, or-right}
@@ -15,22 +15,23 @@ use Rattle.plan.proofs.Add.{add-below}
 use Rattle.plan.proofs.Compute.{eqℤ}
 use Rattle.plan.proofs.Exists.{eqℤ→eq, eqℤ-refl}
 use Rattle.unit.specs.Clauses.{OthersFalse, Quiet}
+use Rattle.unit.specs.Queue.{Waits}
 
-pub quiet-or-false : (v w : List ℤ) → trueIn v ⊆ trueIn w → (C : List ℤ) → Quiet (trueIn v) C
-    → ((m : ℤ) × List·Memᴰ m C × T (trueIn w (negℤ m)) × (T (trueIn v (negℤ m)) → ⊥)) ⊎ Quiet (trueIn w) C
-quiet-or-false v w h C q = go (any-or-none (λ m. trueIn w (negℤ m) && not (trueIn v (negℤ m))) C)
+-- what became true from v to w waits in the queue, so a clause that was quiet is so still, or waits
+pub quiet-or-waits : (v w q : List ℤ) (head end : ℕ) → trueIn v ⊆ trueIn w
+    → ((l : ℤ) → T (trueIn w l) → (T (trueIn v l) → ⊥) → (k : ℕ) × (head ≤ k) × (k < end) × (getD q k (pos 0) ≡ l))
+    → (C : List ℤ) → Quiet (trueIn v) C → Quiet (trueIn w) C ⊎ Waits q head end C
+quiet-or-waits v w q head end h new C x = go (any-or-none (λ m. trueIn w (negℤ m) && not (trueIn v (negℤ m))) C)
   where
     go : ((m : ℤ) × List·Memᴰ m C × T (trueIn w (negℤ m) && not (trueIn v (negℤ m)))) ⊎ ((m : ℤ) → List·Memᴰ m C → T (trueIn w (negℤ m) && not (trueIn v (negℤ m))) → ⊥)
-        → ((m : ℤ) × List·Memᴰ m C × T (trueIn w (negℤ m)) × (T (trueIn v (negℤ m)) → ⊥)) ⊎ Quiet (trueIn w) C
-    go (inl (m, i, t)) = inl (m, i, and-left (trueIn w (negℤ m)) _ t, T-not (trueIn v (negℤ m)) (and-right (trueIn w (negℤ m)) _ t))
-    go (inr n) = inr (record { there = λ l i o. h l (q .there l i (λ m j d. was m j (o m j d))); free = λ f. q .free (λ m i. was m i (f m i)) })
+        → Quiet (trueIn w) C ⊎ Waits q head end C
+    go (inl (m, i, t)) =
+        let k = new (negℤ m) (and-left (trueIn w (negℤ m)) _ t) (T-not (trueIn v (negℤ m)) (and-right (trueIn w (negℤ m)) _ t)) in
+        inr (record { place = k .0; from = k .1; upto = k .2; among = subst (λ l. List·Memᴰ l C) (sym (negℤ-negℤ m) ∙ ap negℤ (sym (k .3))) i })
+    go (inr n) = inl (record { there = λ l i o. h l (x .there l i (λ m j d. was m j (o m j d))); free = λ f. x .free (λ m i. was m i (f m i)) })
       where
         was : (m : ℤ) → List·Memᴰ m C → T (trueIn w (negℤ m)) → T (trueIn v (negℤ m))
-        was m i t = known (T? (trueIn v (negℤ m)))
-          where
-            known : T (trueIn v (negℤ m)) ⊎ (T (trueIn v (negℤ m)) → ⊥) → T (trueIn v (negℤ m))
-            known (inl u) = u
-            known (inr u) = absurd (n m i (and-both (trueIn w (negℤ m)) _ t (not-T (trueIn v (negℤ m)) u)))
+        was m i t = ⊎-elim (λ u. u) (λ u. absurd (n m i (and-both (trueIn w (negℤ m)) _ t (not-T (trueIn v (negℤ m)) u)))) (T? (trueIn v (negℤ m)))
 
 -- a clause with a true literal is quiet
 pub quiet-true : (a C : List ℤ) (l : ℤ) → List·Memᴰ l C → T (trueIn a l) → Quiet (trueIn a) C

@@ -3,14 +3,14 @@
 use mathlib.Core.Path.{_≡_, refl, sym, subst, _∙_, ap}
 use mathlib.Core.Logic.{_⊎_, inl, inr, _≢_}
 use mathlib.Core.Bool.{Bool, true, false}
-use mathlib.Core.List.{List, _∷_, List·Memᴰ}
+use mathlib.Core.List.{List, _∷_}
 use Prim.Native.Nat.{ℕ, zero, suc, _+_, _≤_, _<_}
 use native.Mathlib.Decide.{ℕ-discrete}
 use native.Mathlib.Numerals.{add-one}
 use native.Mathlib.Omega.{arith}
 use lib.ListN.{length, getD, set, drop, length-set, List·getD-eq-default}
 use lib.Seq.{drop-cons, drop-length, getD-set-same, getD-set-other}
-use lib.IntN.{ℤ, pos, negsuc, negℤ, negℤ-negℤ}
+use lib.IntN.{ℤ, pos, negsuc}
 use lib.Signed.{ltZ}
 use lib.Dec.{T}
 use Rattle.plan.specs.Meaning.{on, off, isOn, isOff, value, trueIn, literalOf}
@@ -19,9 +19,8 @@ use Rattle.plan.specs.Search.{opens}
 use Rattle.plan.proofs.Add.{IsValue, on-one, off-one}
 use Rattle.plan.proofs.Signs.{natAbs-neg}
 use Rattle.plan.proofs.Walks.{le-or-lt}
-use Rattle.unit.specs.Clauses.{Quiet}
-use Rattle.unit.specs.Queue.{Waits, Pending, None, Above, Since, literalAt, Queued}
-use Rattle.unit.proofs.Calm.{quiet-or-false}
+use Rattle.unit.specs.Queue.{Pending, None, Above, Since, literalAt, Queued}
+use Rattle.unit.proofs.Calm.{quiet-or-waits}
 
 literal-fits : (n i : ℕ) (sign : Bool) → i < n → LiteralFits n (literalOf sign (i + 1))
 literal-fits n i true h = record { low = omega arith; high = omega arith }
@@ -142,11 +141,7 @@ module _ (cs b v p : List ℤ) (end : ℕ) (since : Since cs b v) (r : Queued b 
   changed-in (negsuc i) t n = subst (λ k. InQueue p end (off k)) (add-one i) (changed-at i (negsuc 0) (λ e. subst (λ x. T (isOff x)) e tt) (off-one _ t) (λ e. n (rw e tt)))
 
   pub changes-wait : Pending cs None v p 0 end
-  changes-wait = record { queue = r .queue; calm = λ C m. inr (go C (quiet-or-false (kept .before) v (kept .above) C (since .quiet C m))) }
-    where
-      go : (C : List ℤ) → ((m : ℤ) × List·Memᴰ m C × T (trueIn v (negℤ m)) × (T (trueIn (kept .before) (negℤ m)) → ⊥)) ⊎ Quiet (trueIn v) C
-          → Quiet (trueIn v) C ⊎ Waits p 0 end C
-      go C (inl q) =
-          let w = changed-in (negℤ (q .0)) (q .2) (q .3) in
-          inr (record { place = w .0; from = omega arith; upto = w .1; among = subst (λ l. List·Memᴰ l C) (sym (negℤ-negℤ (q .0)) ∙ ap negℤ (sym (w .2))) (q .1) })
-      go C (inr q) = inl q
+  changes-wait = record {
+    queue = r .queue;
+    calm = λ C m. inr (quiet-or-waits (kept .before) v p 0 end (kept .above) (λ l t n. let w = changed-in l t n in (w .0, omega arith, w .1, w .2)) C (since .quiet C m));
+  }

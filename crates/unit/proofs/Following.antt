@@ -1,6 +1,6 @@
 -- The queue through the looks at the clauses: what waits, what is left, and what the looks lead to.
 -- Assumes nothing.
-use mathlib.Core.Path.{_≡_, refl, sym, subst, _∙_, ap}
+use mathlib.Core.Path.{_≡_, refl, sym, subst, _∙_}
 use mathlib.Core.Logic.{_⊎_, inl, inr, ⊎-elim}
 use mathlib.Core.Bool.{Bool, true, false}
 use mathlib.Core.List.{List, List·Memᴰ, List·Memᴰ·cases-cons, List·Memᴰ·not-nil}
@@ -9,7 +9,7 @@ use native.Mathlib.Decide.{ℕ-discrete}
 use native.Mathlib.Omega.{arith}
 use lib.ListN.{length, getD, set, drop, length-set}
 use lib.Seq.{getD-set-same, getD-set-other}
-use lib.IntN.{ℤ, pos, negℤ, negℤ-negℤ}
+use lib.IntN.{ℤ, pos, negℤ}
 use lib.Dec.{T}
 use Rattle.plan.specs.Meaning.{PlanFile, trueIn, add}
 use Rattle.plan.specs.Ranged.{maxVariables, LiteralFits}
@@ -29,7 +29,7 @@ use Rattle.unit.specs.declared.Said.{Said}
 use Rattle.unit.specs.declared.Said.the-variants.{Clash, Gives, Nothing}
 use Rattle.unit.specs.declared.Followed.{Followed}
 use Rattle.unit.proofs.Steps.{onward-none, onward-then, onward-add}
-use Rattle.unit.proofs.Calm.{quiet-or-false, quiet-true, add-only}
+use Rattle.unit.proofs.Calm.{quiet-or-waits, quiet-true, add-only}
 
 sized : {n : ℕ} {v : List ℤ} → Assigned n v → Assigned (length v) v
 sized {n} {v} s = subst (λ k. Assigned k v) (sym (s .long)) s
@@ -94,22 +94,11 @@ module _ {v : List ℤ} {l : ℤ} (s : Assigned (length v) v) (f : LiteralFits (
         let n : w .place ≡ end → ⊥ = λ e. omega (arith, w .upto) in
         record { place = w .place; from = w .from; upto = omega (arith, w .upto); among = subst (λ x. List·Memᴰ (negℤ x) D) (sym (getD-set-other q end (w .place) l (pos 0) n)) (w .among) }
 
-    waits-now : (D : List ℤ) (m : ℤ) → List·Memᴰ m D → T (trueIn (add v l) (negℤ m)) → (T (trueIn v (negℤ m)) → ⊥) → Waits (set q end l) head (end + 1) D
-    waits-now D m i x y = record {
-      place = end;
-      from = h;
-      upto = omega arith;
-      among = subst (λ z. List·Memᴰ z D) (sym (negℤ-negℤ m) ∙ ap negℤ (add-only v l (negℤ m) (f .high) x y) ∙ sym (ap negℤ (getD-set-same q end l (pos 0) inside))) i;
-    }
-
     calm-more : (D : List ℤ) → List·Memᴰ D (clausesOf cs) → Calm Left v q head end D → Calm Left′ (add v l) (set q end l) head (end + 1) D
     calm-more D i (inl x) = ⊎-elim inl (λ y. inr (inl y)) (less D i x)
-    calm-more D i (inr (inl x)) = inr (go (quiet-or-false v (add v l) (add-above v l (f .high) not-false) D x))
-      where
-        go : ((m : ℤ) × List·Memᴰ m D × T (trueIn (add v l) (negℤ m)) × (T (trueIn v (negℤ m)) → ⊥)) ⊎ Quiet (trueIn (add v l)) D
-            → Quiet (trueIn (add v l)) D ⊎ Waits (set q end l) head (end + 1) D
-        go (inl (m, j, a, b)) = inr (waits-now D m j a b)
-        go (inr y) = inl y
+    calm-more D i (inr (inl x)) =
+        inr (quiet-or-waits v (add v l) (set q end l) head (end + 1) (add-above v l (f .high) not-false)
+        (λ m y z. (end, h, omega arith, getD-set-same q end l (pos 0) inside ∙ sym (add-only v l m (f .high) y z))) D x)
     calm-more D i (inr (inr x)) = inr (inr (waits-still D x))
 
     pending-add : Pending cs Left′ (add v l) (set q end l) head (end + 1)

@@ -1,3 +1,4 @@
+-- A number's first place, read where the index keeps it.
 use mathlib.Core.Path.{_≡_, ap, _∙_}
 use Prim.Native.Nat.{_<_}
 use native.Mathlib.Omega.{arith}

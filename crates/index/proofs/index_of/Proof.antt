@@ -1,3 +1,4 @@
+-- The index from the table's end to its beginning: before each turn it is that of the part behind the place.
 use mathlib.Core.Path.{_≡_, ap, _∙_, subst}
 use mathlib.Core.List.{List}
 use Prim.Native.Nat.{ℕ, _-_, _<_, _≤_}
@@ -112,24 +113,5 @@ returns c = built-all (c .before .before .pre) (subst (λ k. Built (c .before .b
 
 pub index-of-spec : {M : Type 1} → statement M
 index-of-spec =
-    tie.close
-    (tie.spec
-    Inv-loop
-    μ-loop
-    cast-none
-    loop-holds
-    sub-at
-    mul-slot-of
-    shared-slice-copy-out-slot-of
-    slot-of-requires
-    mul-places
-    array-read-places
-    add-places
-    mul-places-2
-    array-write-places
-    cast-places
-    mul-places-3
-    array-write-places-2
-    loop-less
-    loop-again
-    returns)
+    tie.close (tie.spec Inv-loop μ-loop cast-none loop-holds sub-at mul-slot-of shared-slice-copy-out-slot-of slot-of-requires mul-places array-read-places
+    add-places mul-places-2 array-write-places cast-places mul-places-3 array-write-places-2 loop-less loop-again returns)

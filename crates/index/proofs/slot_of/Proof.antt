@@ -1,3 +1,4 @@
+-- Where the index keeps a number's first place, by the number's sign.
 use mathlib.Core.Path.{_≡_, ap, _∙_}
 use native.Mathlib.Omega.{arith}
 use lib.IntN.{natAbs}

@@ -86,20 +86,5 @@ returns-2 c = passed-none (c .before .loop .inv .2) (no-more (c .before .before 
 
 pub first-untrue-spec : {M : Type 1} → statement M
 first-untrue-spec =
-    tie.close
-    (tie.spec
-    Inv-loop
-    μ-loop
-    loop-holds
-    end-of-requires
-    add-number
-    mul-has-true
-    sub-has-true
-    part-has-true-start
-    part-has-true-end
-    has-true-requires
-    returns
-    add-at
-    loop-less
-    loop-again
-    returns-2)
+    tie.close (tie.spec Inv-loop μ-loop loop-holds end-of-requires add-number mul-has-true sub-has-true part-has-true-start part-has-true-end has-true-requires
+    returns add-at loop-less loop-again returns-2)

@@ -1,12 +1,14 @@
 -- The search from all open: its answer, and what stands in the result.
-use mathlib.Core.Path.{_≡_, refl, sym, subst}
+use mathlib.Core.Path.{_≡_, refl, sym, subst, ap, _∙_}
 use mathlib.Core.List.{List}
-use Prim.Native.Nat.{ℕ}
+use Prim.Native.Nat.{ℕ, _≤_}
 use native.Mathlib.Omega.{arith}
 use borrow.Author.Needs.{needs}
 use lib.IntN.{ℤ, pos}
-use lib.ListN.{take, replicate}
+use lib.ListN.{length, take, replicate}
+use lib.Seq.{length-take-le}
 use Rattle.plan.specs.Meaning.{PlanFile}
+use Rattle.plan.specs.Ranged.{maxVariables}
 use Rattle.plan.specs.Search.{Assigned, Searched}
 use Rattle.plan.specs.Tables.{planOf}
 use Rattle.plan.proofs.Places.{without-none}
@@ -59,8 +61,31 @@ module _ (c : tie.After-settle) where
 enum-told : tie.Need-enum-told
 enum-told c = search needs
 
-write-requires : tie.Need-write-requires
-write-requires c κs = search needs
+wide-requires : tie.Need-wide-requires
+wide-requires c κs = search needs
+
+-- the first n of the plan's places
+module _ (c : tie.After-wide) where
+  abbrev ended : tie.After-settle
+  ended = c .before .before .before .before .before
+
+  abbrev of-plan : List ℤ
+  of-plan = ended .settle .result .plan .values
+
+  inside : c .wide .result ≤ length of-plan
+  inside = let e : length of-plan ≡ maxVariables = search needs in omega (arith, e, c .wide .ensures, begin (ended .before .before) .pre .0 .ranged .variables)
+
+  long : length (take (c .wide .result) of-plan) ≡ n (ended .before .before)
+  long = length-take-le _ _ inside ∙ c .wide .ensures
+
+array-share-prefix-values : tie.Need-array-share-prefix-values
+array-share-prefix-values c = inside (c .before)
+
+slice-aggregate-copy : tie.Need-slice-aggregate-copy
+slice-aggregate-copy c = sym (length-take-le _ _ (inside (c .before .before)))
+
+copy-requires : tie.Need-copy-requires
+copy-requires c κs = let w = c .before .before in begin (ended w .before .before) .pre .1 ∙ sym (long w)
 
 enum-told-2 : tie.Need-enum-told-2
 enum-told-2 c = search needs
@@ -72,7 +97,10 @@ same-length : tie.Need-same-length
 same-length c = search needs
 
 returns : tie.Need-returns
-returns c = record { searched = rw (c .before .write .ensures) (searched (c .before .before .before .before .before .before) _ (c .before .before .before .before .enum-told .given .1)); keeps = same-length c }
+returns c =
+    let w = c .before .before .before .before in
+    let e = c .before .copy .ensures ∙ ap (λ m. take m (of-plan w)) (w .wide .ensures) in
+    record { searched = rw e (searched (ended w) _ (w .before .before .before .enum-told .given .1)); keeps = same-length c }
 
 returns-2 : tie.Need-returns-2
 returns-2 c = record { searched = searched (c .before .before) _ (c .enum-told2 .given .1); keeps = refl }
@@ -82,16 +110,5 @@ returns-3 c = record { searched = searched (c .before .before) _ (c .enum-told3 
 
 pub search-spec : {M : Type 1} → statement M
 search-spec =
-    tie.close
-    (tie.spec
-    index-of-requires
-    all-open-requires
-    settle-requires
-    enum-told
-    write-requires
-    enum-told-2
-    enum-told-3
-    same-length
-    returns
-    returns-2
-    returns-3)
+    tie.close (tie.spec index-of-requires all-open-requires settle-requires enum-told wide-requires array-share-prefix-values slice-aggregate-copy copy-requires
+    enum-told-2 enum-told-3 same-length returns returns-2 returns-3)

@@ -105,19 +105,5 @@ returns-3 c = record { said = Nothing; says = says (c .before .before) Nothing (
 
 pub apply-spec : {M : Type 1} → statement M
 apply-spec =
-    tie.close
-    (tie.spec
-    look-at-requires
-    enum-told
-    enum-known-said
-    put-requires
-    mul-literal
-    element-set-from-literal
-    add-t14
-    enum-told-2
-    same-length
-    returns
-    same-length-2
-    returns-2
-    same-length-3
-    returns-3)
+    tie.close (tie.spec look-at-requires enum-told enum-known-said put-requires mul-literal element-set-from-literal add-t14 enum-told-2 same-length returns
+    same-length-2 returns-2 same-length-3 returns-3)

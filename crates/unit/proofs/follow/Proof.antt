@@ -1,6 +1,7 @@
+-- The clauses that hold the opposite of one literal, place after place: those from the next place on are left.
 use mathlib.Core.Path.{_≡_, sym, subst, _∙_, ap}
 use mathlib.Core.List.{List}
-use Prim.Native.Nat.{_+_, _-_, _≤_, _<_}
+use Prim.Native.Nat.{ℕ, _+_, _-_, _≤_, _<_}
 use native.Mathlib.Omega.{arith}
 use borrow.Author.Needs.{needs}
 use lib.IntN.{ℤ, pos, negℤ, natAbs}
@@ -8,6 +9,7 @@ use lib.ListN.{length, getD}
 use mir.Syntax.{w16}
 use mir.Val.{SFits, ofZ, toZ}
 use mir.Facts.{toZ-ofZ}
+use Rattle.plan.specs.Ranged.{maxVariables}
 use Rattle.plan.proofs.Signs.{natAbs-neg}
 use Rattle.plan.proofs.Values.{small-ne}
 use Rattle.index.specs.Places.{Place, slot}
@@ -29,10 +31,10 @@ module _ (c : tie.Start Inv-loop μ-loop) where
   abbrev literal : ℤ
   literal = getD (c .args .queue .now) (c .args .head) (pos 0)
 
-  short : c .args .head < 512
+  short : c .args .head < maxVariables
   short = omega (arith, c .pre .1 .1 .0, c .pre .1 .1 .1 .queue .room)
 
-  small : natAbs literal ≤ 512
+  small : natAbs literal ≤ maxVariables
   small = omega (arith, c .pre .1 .1 .1 .queue .fits (c .args .head) (c .pre .1 .1 .0) .high, c .pre .0 .small)
 
 mul-opposite : tie.Need-mul-opposite Inv-loop μ-loop
@@ -54,7 +56,7 @@ module _ (c : tie.After-opposite Inv-loop μ-loop) where
   other : toZ w16 (ofZ w16 (c .opposite .result)) ≡ negℤ (literal (c .before .before))
   other = let f : SFits w16 (c .opposite .result) = search needs in toZ-ofZ f ∙ c .opposite .ensures ∙ ap negℤ (number (c .before))
 
-  small-other : natAbs (negℤ (literal (c .before .before))) ≤ 512
+  small-other : natAbs (negℤ (literal (c .before .before))) ≤ maxVariables
   small-other = omega (arith, natAbs-neg (literal (c .before .before)), small (c .before .before))
 
 first-place-requires : tie.Need-first-place-requires Inv-loop μ-loop
@@ -106,10 +108,11 @@ module _ (c : tie.After-next-place Inv-loop μ-loop) where
   abbrev looked : tie.After-apply Inv-loop μ-loop
   looked = c .before .before .before
 
-  next : Place (table (begin looked)) (getD (table (begin looked)) (turn looked .loop .place) (pos 0)) (turn looked .loop .place + 1) (c .next-place .result)
-  next =
-      subst (λ r. Place (table (begin looked)) (getD (table (begin looked)) (turn looked .loop .place) (pos 0)) (turn looked .loop .place + 1) r) (sym (c .next-place .ensures))
-      (begin looked .pre .1 .0 .next (turn looked .loop .place) (inside looked))
+  abbrev Next : ℕ → Type 0
+  Next r = Place (table (begin looked)) (getD (table (begin looked)) (turn looked .loop .place) (pos 0)) (turn looked .loop .place + 1) r
+
+  next : Next (c .next-place .result)
+  next = subst Next (sym (c .next-place .ensures)) (begin looked .pre .1 .0 .next (turn looked .loop .place) (inside looked))
 
 loop-less : tie.Need-loop-less Inv-loop μ-loop
 loop-less c = omega (arith, next c .after, inside (looked c))
@@ -128,21 +131,5 @@ same-length-2 c = c .before .loop .inv .looks .steps .shape .long
 
 pub follow-spec : {M : Type 1} → statement M
 follow-spec =
-    tie.close
-    (tie.spec
-    Inv-loop
-    μ-loop
-    mul-opposite
-    element-copy-out-opposite
-    opposite-requires
-    first-place-requires
-    loop-holds
-    start-of-requires
-    apply-requires
-    same-length
-    returns
-    next-place-requires
-    loop-less
-    loop-again
-    same-length-2
-    returns-2)
+    tie.close (tie.spec Inv-loop μ-loop mul-opposite element-copy-out-opposite opposite-requires first-place-requires loop-holds start-of-requires
+    apply-requires same-length returns next-place-requires loop-less loop-again same-length-2 returns-2)

@@ -1,3 +1,4 @@
+-- The literals of the queue, one after the other: what they lead to, up to a clash or the queue's end.
 use mathlib.Core.Path.{refl}
 use mathlib.Core.Bool.{false}
 use Prim.Native.Nat.{_-_, _<_}
@@ -56,17 +57,4 @@ same-length-2 : tie.Need-same-length-2 Inv-loop μ-loop
 same-length-2 c = c .before .loop .inv .steps .shape .long
 
 pub follow-all-spec : {M : Type 1} → statement M
-follow-all-spec =
-    tie.close
-    (tie.spec
-    Inv-loop
-    μ-loop
-    loop-holds
-    follow-requires
-    same-length
-    returns
-    add-head
-    loop-less
-    loop-again
-    same-length-2
-    returns-2)
+follow-all-spec = tie.close (tie.spec Inv-loop μ-loop loop-holds follow-requires same-length returns add-head loop-less loop-again same-length-2 returns-2)

@@ -106,17 +106,5 @@ returns-4 c =
 
 pub look-at-spec : {M : Type 1} → statement M
 look-at-spec =
-    tie.close
-    (tie.spec
-    stop-of-requires
-    mul-literal
-    shared-slice-copy-out-literal
-    returns
-    value-of-requires
-    returns-2
-    add-stop-of
-    stop-of-requires-2
-    mul-if3
-    shared-slice-copy-out-if3
-    returns-3
-    returns-4)
+    tie.close (tie.spec stop-of-requires mul-literal shared-slice-copy-out-literal returns value-of-requires returns-2 add-stop-of stop-of-requires-2 mul-if3
+    shared-slice-copy-out-if3 returns-3 returns-4)

@@ -1,3 +1,4 @@
+-- Clause after clause: those from the place reached on are left.
 use mathlib.Core.List.{List}
 use Prim.Native.Nat.{_-_, _<_}
 use native.Mathlib.Omega.{arith}
@@ -66,17 +67,4 @@ same-length-2 c = c .before .loop .inv .looks .steps .shape .long
 
 pub pass-spec : {M : Type 1} → statement M
 pass-spec =
-    tie.close
-    (tie.spec
-    Inv-loop
-    μ-loop
-    loop-holds
-    apply-requires
-    same-length
-    returns
-    end-of-requires
-    add-at
-    loop-less
-    loop-again
-    same-length-2
-    returns-2)
+    tie.close (tie.spec Inv-loop μ-loop loop-holds apply-requires same-length returns end-of-requires add-at loop-less loop-again same-length-2 returns-2)

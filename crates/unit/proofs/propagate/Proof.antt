@@ -1,3 +1,4 @@
+-- The literal tried alone waits, or every clause is looked at first; then the queue is followed.
 use mathlib.Core.Path.{refl, sym, ap, subst}
 use borrow.Author.Needs.{needs}
 use lib.IntN.{pos}
@@ -50,15 +51,5 @@ same-length-3 c = returns-3 c .steps .shape .long
 
 pub propagate-spec : {M : Type 1} → statement M
 propagate-spec =
-    tie.close
-    (tie.spec
-    array-set-from-queue
-    follow-all-requires
-    same-length
-    returns
-    pass-requires
-    same-length-2
-    returns-2
-    follow-all-requires-2
-    same-length-3
+    tie.close (tie.spec array-set-from-queue follow-all-requires same-length returns pass-requires same-length-2 returns-2 follow-all-requires-2 same-length-3
     returns-3)

@@ -1,3 +1,4 @@
+-- The changes are queued, and the queue is followed.
 use mathlib.Core.Path.{refl}
 use Rattle.unit.proofs.Changes.{changes-wait}
 use Rattle.unit.proofs.propagate_changes.Statement.{statement}

@@ -97,19 +97,5 @@ returns c = queueing-ends _ _ _ _ _ (c .before .loop .inv) (c .loop-test .left) 
 
 pub queue-changes-spec : {M : Type 1} → statement M
 queue-changes-spec =
-    tie.close
-    (tie.spec
-    Inv-loop
-    μ-loop
-    loop-holds
-    shared-slice-copy-out-value
-    element-copy-out-if1
-    add-literal-of
-    literal-of-requires
-    mul-t16
-    element-set-from-queue
-    add-end
-    add-i
-    loop-less
-    loop-again
-    returns)
+    tie.close (tie.spec Inv-loop μ-loop loop-holds shared-slice-copy-out-value element-copy-out-if1 add-literal-of literal-of-requires mul-t16
+    element-set-from-queue add-end add-i loop-less loop-again returns)
