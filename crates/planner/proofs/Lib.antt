@@ -1,5 +1,4 @@
 pub mod Unique
-pub mod Places
 pub mod Stating
 pub mod Demand2
 pub mod Demand3

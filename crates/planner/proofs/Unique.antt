@@ -1,7 +1,7 @@
 -- No second answer, and no second contents of a lent buffer, fits the statement of a public call. One law over all calls: where nothing is
 -- refused, the answer and the buffer are what an outcome tells, and there is one outcome.
 -- Assumes nothing.
-use mathlib.Core.Path.{_≡_, refl, sym, subst, _∙_, ap}
+use mathlib.Core.Path.{_≡_, refl, sym, _∙_, ap}
 use mathlib.Core.Bool.{Bool, cond}
 use mathlib.Core.Logic.{inl, inr}
 use mathlib.Core.List.{List, _++_}

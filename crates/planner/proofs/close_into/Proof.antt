@@ -1,3 +1,4 @@
+-- `close_into` closes a copy: where there is no clash it is copied to the result, and else the result is as it was.
 use borrow.Author.Needs.{needs}
 use mathlib.Core.Path.{_≡_, refl, sym, ap, _∙_, subst}
 use mathlib.Core.Bool.{Bool, true, false}

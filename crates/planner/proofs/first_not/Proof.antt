@@ -1,21 +1,37 @@
+-- `first_not` finds the first place whose value is not taken: what is behind `i` decides it, since all before `i` is taken.
 use mathlib.Core.Path.{_≡_, sym, ap, _∙_}
+use mathlib.Core.Bool.{Bool, true, false, cond}
 use mathlib.Core.List.{List}
-use Prim.Native.Nat.{ℕ, _+_, _-_, _≤_}
+use Prim.Native.Nat.{ℕ, zero, suc, _+_, _-_, _≤_, _<_}
 use native.Mathlib.Omega.{arith}
 use native.Mathlib.Numerals.{add-one}
 use borrow.Author.Needs.{needs}
 use borrow.Author.Tests.{not-true, not-false}
-use lib.ListN.{length, getD, drop}
+use lib.ListN.{length, getD, drop, drop-of-length-le}
+use lib.Seq.{drop-cons}
 use lib.IntN.{ℤ, pos}
 use mir.Syntax.{w8}
 use mir.Val.{SFits}
 use mir.Facts.{toZ-ofZ}
 use Rattle.planner.specs.Refusing.{taken, firstNot}
-use Rattle.planner.proofs.Places.{first-skip, first-here, first-none}
 use Rattle.planner.proofs.first_not.Statement.{statement}
 use Rattle.planner.proofs.first_not.Tie as tie
-use Rattle.planner.proofs.first_not.Reads as reads
-use Rattle.planner.proofs.first_not.Lts as lts
+
+-- from `i` on
+module _ (ok : ℤ → Bool) (a : List ℤ) (i : ℕ) where
+  first-at : i < length a → firstNot ok (drop i a) ≡ cond (ok (getD a i (pos 0))) (suc (firstNot ok (drop (suc i) a))) zero
+  unfolding firstNot
+  first-at h = ap (firstNot ok) (drop-cons a i (pos 0) h)
+
+  first-skip : i < length a → ok (getD a i (pos 0)) ≡ true → i + firstNot ok (drop i a) ≡ suc i + firstNot ok (drop (suc i) a)
+  first-skip h t = omega (arith, first-at h ∙ ap (λ (b : Bool). cond b (suc (firstNot ok (drop (suc i) a))) zero) t)
+
+  first-here : i < length a → ok (getD a i (pos 0)) ≡ false → firstNot ok (drop i a) ≡ 0
+  first-here h t = first-at h ∙ ap (λ (b : Bool). cond b (suc (firstNot ok (drop (suc i) a))) zero) t
+
+  first-none : length a ≤ i → firstNot ok (drop i a) ≡ 0
+  unfolding firstNot
+  first-none h = ap (firstNot ok) (drop-of-length-le a h)
 
 abbrev Inv-loop : tie.InvT-loop
 Inv-loop values partial i₀ i = (i ≤ length values) × (i + firstNot (taken partial) (drop i values) ≡ firstNot (taken partial) values)

@@ -4,7 +4,7 @@ use mathlib.Core.Path.{refl}
 use mathlib.Core.List.{List}
 use Prim.Native.Nat.{ℕ}
 use lib.IntN.{ℤ}
-use Rattle.reader.specs.Format.{Reading, refused, accepted, readPlan}
+use Rattle.reader.specs.Format.{Reading, refused, accepted}
 use Rattle.reader.specs.Filling.{Answers}
 use Rattle.reader.specs.declared.ReadAnswer.{ReadAnswer}
 use Rattle.reader.specs.declared.ReadAnswer.the-variants.{Accepted, Refused}

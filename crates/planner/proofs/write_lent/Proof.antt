@@ -1,9 +1,7 @@
 -- `write_lent`: what the writer answers, as the call's answer; there is room exactly if the check holds.
 use borrow.Author.Needs.{needs}
 use mathlib.Core.Path.{_≡_, sym, ap, _∙_, subst}
-use mathlib.Core.List.{List}
 use native.Mathlib.Omega.{arith}
-use lib.IntN.{ℤ}
 use lib.ListN.{length}
 use Rattle.plan.specs.Meaning.{PlanFile}
 use Rattle.plan.specs.Tables.{planOf}
