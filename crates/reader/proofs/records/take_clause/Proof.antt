@@ -33,7 +33,8 @@ module _ (c : tie.After-literals-ok) where
   long = simp (← len-is measured, le-leb 2 _ (c .before .before .if1 .left), eq-eqb _ _ (c .before .if2 .left))
 
   ranged : literalsOk (counts measured .variables) (clauseIn (file measured) (at measured)) ≡ c .literals-ok .result
-  ranged = sym (c .literals-ok .ensures ∙ ap (λ n. literalsOk (counts measured .variables) (literalsIn (file measured) (at measured + 3) (n / 2))) (len-is measured))
+  ranged =
+      sym (c .literals-ok .ensures ∙ ap (λ n. literalsOk (counts measured .variables) (literalsIn (file measured) (at measured + 3) (n / 2))) (len-is measured))
 
 module _ (c : tie.Else4) where
   abbrev tested : tie.After-literals-ok
@@ -59,13 +60,7 @@ module _ (c : tie.Else5) where
   most = ap (λ n. leb (counts start .literals + n / 2) 4096) (sym (len-is start)) ∙ le-leb _ 4096 (c .if5 .left)
 
   ended : at start + 3 + start .wide .result < 18446744073709551616
-  ended = omega (arith, len-is start, entry start .pre .0, entry start .good)
-
-returns : tie.Need-returns
-unfolding clauseLen
-returns c = λ es bs p t.
-    let d = c .before in
-    rw (clause-step (file d) (at d) t, ← len-is d, lt-leb 2 _ (c .if1 .taken)) (refuses refl refl)
+  ended = omega (arith, len-is start, entry start .pre .within, entry start .good)
 
 returns-2 : tie.Need-returns-2
 unfolding clauseLen
@@ -76,8 +71,7 @@ returns-2 c = λ es bs p t.
 returns-3 : tie.Need-returns-3
 returns-3 c = λ es bs p t.
     let d = c .before in
-    let b = measured d in
-    rw (clause-step (file b) (at b) t, long d, ranged d ∙ not-true _ (c .if3 .taken)) (refuses refl refl)
+    rw (clause-step (file (measured d)) (at (measured d)) t, long d, ranged d ∙ not-true _ (c .if3 .taken)) (refuses refl refl)
 
 returns-4 : tie.Need-returns-4
 returns-4 c = λ es bs p t.
@@ -100,13 +94,14 @@ returns-6 c = λ es bs p t.
     (leads (ap (λ n. at b + 3 + n) (sym (len-is b))) (clause-tables (file b) (at b) t (ap (λ n. n / 2) (len-is b)) (c .before .before .copy-literals .ensures)))
 
 pub take-clause-spec : {M : Type 1} → statement M
+unfolding clauseLen
 take-clause-spec =
     tie.close
     (tie.spec
     (λ c. search needs)
     (λ c κs. search needs)
     (λ c κs. search needs)
-    returns
+    (λ c es bs p t. let d = c .before in rw (clause-step (file d) (at d) t, ← len-is d, lt-leb 2 _ (c .if1 .taken)) (refuses refl refl))
     (λ c. search needs)
     returns-2
     (λ c. search needs)
