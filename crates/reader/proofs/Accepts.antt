@@ -47,7 +47,8 @@ unfolding serves
 served variable [] x m = absurd (List·Memᴰ·not-nil m)
 served variable (y ∷ xs) x m =
     ⊎-elim (λ (e : x ≡ y). ap (λ b. b || serves variable xs (variable x)) (eq-eqb _ _ (ap variable (sym e))))
-    (λ (n : List·Memᴰ x xs). ap (λ b. eqb (variable y) (variable x) || b) (served variable xs x n) ∙ or-true (eqb (variable y) (variable x))) (List·Memᴰ·cases-cons m)
+    (λ (n : List·Memᴰ x xs). ap (λ b. eqb (variable y) (variable x) || b) (served variable xs x n) ∙ or-true (eqb (variable y) (variable x)))
+    (List·Memᴰ·cases-cons m)
 
 unserved : {A : Type 0} (variable : A → ℕ) (xs : List A) (v : ℕ) → serves variable xs v ≡ false → (x : A) → List·Memᴰ x xs → variable x ≡ v → ⊥
 unserved variable xs v h x m e = false≢true (sym h ∙ ap (serves variable xs) (sym e) ∙ served variable xs x m)

@@ -1,12 +1,15 @@
 -- What each record leads to, told by the counts and the tables: the tests that the code makes are the definition's.
 -- Assumes nothing.
-use Rattle.reader.proofs.Kit.{_≡_, refl, sym, ap, _∙_, true, not, _&&_, and-eq-true-iff, List, [], _∷_, _++_, append-assoc, ℕ, _+_, _*_, _/_, _≤_, arith, leb-true, ltb, leb, eqb, ℤ, pos, length, take}
+use Rattle.reader.proofs.Kit.{_≡_, refl, sym, ap, _∙_, Bool, true, false, not, _&&_, and-eq-true-iff, List, [], _∷_, _++_, append-assoc, ℕ, _+_, _*_, _/_, _≤_, arith, leb-true, ltb, leb, eqb, ℤ, pos, length, take}
 use Rattle.plan.specs.Meaning.{PlanFile}
 use Rattle.plan.specs.Ranged.{maxEdges, maxAtoms, maxClauses, maxLiterals, literals}
 use Rattle.plan.specs.Written.{flat}
 use Rattle.plan.specs.declared.Plan as counted
-use Rattle.reader.specs.Format.{next, inOrder, word, lenAt, after, fits, edgeOk, atomOk, literalsOk, clauseLen, edgeIn, kindIn, atomIn, clauseIn, literalsIn, addEdge, addAtom, addClause, emptyPlan, edgeAt, atomAt, clauseAt}
-use Rattle.reader.specs.Filling.{Tables, Filled, lastIs, rowsOf, edgeRow, atomRow}
+use Rattle.plan.specs.declared.Refusal.the-variants.{BadLength, OutOfRange, TooMany, Shared}
+use Rattle.reader.specs.declared.Step as code
+use Rattle.reader.specs.declared.Step.the-variants.{Refuse}
+use Rattle.reader.specs.Format.{Step, next, inOrder, word, lenAt, after, fits, edgeOk, atomOk, literalsOk, clauseLen, edgeIn, kindIn, atomIn, clauseIn, literalsIn, addEdge, addAtom, addClause, emptyPlan, edgeAt, atomAt, clauseAt}
+use Rattle.reader.specs.Filling.{Steps, refuses, Tables, Filled, lastIs, rowsOf, edgeRow, atomRow}
 use Rattle.reader.proofs.Rows.{uses-edges, uses-atoms, rows-more, flat-clause, count-clause, length-snoc, literals-length}
 
 -- a record that fits ends in the file
@@ -39,13 +42,35 @@ empty-tables nodes variables es bs cs = record {
 abbrev counting : counted.Plan → ℕ → ℕ → ℕ → ℕ → counted.Plan
 counting c e a k l = record { nodes = c .nodes; variables = c .variables; edges = e; atoms = a; clauses = k; literals = l }
 
+-- A record's step q is its four tests in the document's order, and then the step s. The ways out, and the way on.
+pub record Tested (q : Step) (long ranged room used : Bool) (at : ℕ) (s : Step) : Type 0 where
+  pub is : q ≡ inOrder long ranged room (not used) at s
+
+module _ {q s : Step} {long ranged room used : Bool} {at : ℕ} (k : Tested q long ranged room used at s) {es bs : List ℕ} {cs : List ℤ} where
+  pub bad-length : long ≡ false → Steps es bs cs q (Refuse (BadLength at))
+  bad-length l = rw (k .is, l) (refuses refl refl)
+
+  module _ (l : long ≡ true) where
+    pub out-of-range : ranged ≡ false → Steps es bs cs q (Refuse (OutOfRange at))
+    out-of-range r = rw (k .is, l, r) (refuses refl refl)
+
+    module _ (r : ranged ≡ true) where
+      pub too-many : room ≡ false → Steps es bs cs q (Refuse (TooMany at))
+      too-many m = rw (k .is, l, r, m) (refuses refl refl)
+
+      module _ (m : room ≡ true) where
+        pub shared : used ≡ true → Steps es bs cs q (Refuse (Shared at))
+        shared u = rw (k .is, l, r, m, u) (refuses refl refl)
+
+        pub taken : {x : code.Step} → used ≡ false → Steps es bs cs s x → Steps es bs cs q x
+        taken u h = rw (k .is, l, r, m, u) h
+
 module _ (f : List ℕ) (at : ℕ) {p : PlanFile} {c : counted.Plan} {es bs : List ℕ} {cs : List ℤ} (t : Tables p c es bs cs) where
-  pub edge-step : edgeAt f at p ≡
-      inOrder (eqb (lenAt f at) 6) (edgeOk (c .nodes) (c .variables) (edgeIn f at)) (ltb (c .edges) maxEdges)
-      (not (lastIs 4 4 (take (c .atoms * 5) bs) (word f (at + 7)))) at
-      (next (after f at) (addEdge p (edgeIn f at)))
+  pub edge-tests :
+      Tested (edgeAt f at p) (eqb (lenAt f at) 6) (edgeOk (c .nodes) (c .variables) (edgeIn f at)) (ltb (c .edges) maxEdges)
+      (lastIs 4 4 (take (c .atoms * 5) bs) (word f (at + 7))) at (next (after f at) (addEdge p (edgeIn f at)))
   unfolding edgeAt
-  edge-step = simp (← t .nodes, ← t .variables, ← t .edges .count, t .atoms .rows, uses-atoms)
+  edge-tests = record { is = simp (← t .nodes, ← t .variables, ← t .edges .count, t .atoms .rows, uses-atoms) }
 
   pub edge-tables : {d : List ℕ} → take ((c .edges + 1) * 3) d ≡ take (c .edges * 3) es ++ edgeRow (edgeIn f at)
       → Tables (addEdge p (edgeIn f at)) (counting c (c .edges + 1) (c .atoms) (c .clauses) (c .literals)) d bs cs
@@ -58,12 +83,11 @@ module _ (f : List ℕ) (at : ℕ) {p : PlanFile} {c : counted.Plan} {es bs : Li
     literals = t .literals;
   }
 
-  pub atom-step : atomAt f at p ≡
-      inOrder (eqb (lenAt f at) 9) (atomOk (c .nodes) (c .variables) (kindIn f at) (atomIn f at)) (ltb (c .atoms) maxAtoms)
-      (not (lastIs 2 2 (take (c .edges * 3) es) (word f (at + 10)))) at
-      (next (after f at) (addAtom p (atomIn f at)))
+  pub atom-tests :
+      Tested (atomAt f at p) (eqb (lenAt f at) 9) (atomOk (c .nodes) (c .variables) (kindIn f at) (atomIn f at)) (ltb (c .atoms) maxAtoms)
+      (lastIs 2 2 (take (c .edges * 3) es) (word f (at + 10))) at (next (after f at) (addAtom p (atomIn f at)))
   unfolding atomAt
-  atom-step = simp (← t .nodes, ← t .variables, ← t .atoms .count, t .edges .rows, uses-edges)
+  atom-tests = record { is = simp (← t .nodes, ← t .variables, ← t .atoms .count, t .edges .rows, uses-edges) }
 
   pub atom-tables : {d : List ℕ} → take ((c .atoms + 1) * 5) d ≡ take (c .atoms * 5) bs ++ atomRow (atomIn f at)
       → Tables (addAtom p (atomIn f at)) (counting c (c .edges) (c .atoms + 1) (c .clauses) (c .literals)) es d cs
@@ -76,12 +100,11 @@ module _ (f : List ℕ) (at : ℕ) {p : PlanFile} {c : counted.Plan} {es bs : Li
     literals = t .literals;
   }
 
-  pub clause-step : clauseAt f at p ≡
-      inOrder (clauseLen (lenAt f at)) (literalsOk (c .variables) (clauseIn f at))
-      (ltb (c .clauses) maxClauses && leb (c .literals + lenAt f at / 2) maxLiterals) true at
-      (next (after f at) (addClause p (clauseIn f at)))
+  pub clause-tests :
+      Tested (clauseAt f at p) (clauseLen (lenAt f at)) (literalsOk (c .variables) (clauseIn f at))
+      (ltb (c .clauses) maxClauses && leb (c .literals + lenAt f at / 2) maxLiterals) false at (next (after f at) (addClause p (clauseIn f at)))
   unfolding clauseAt
-  clause-step = simp (← t .variables, ← t .clauses .count, ← t .literals)
+  clause-tests = record { is = simp (← t .variables, ← t .clauses .count, ← t .literals) }
 
   pub clause-tables : {n : ℕ} {d : List ℤ} → n ≡ lenAt f at / 2
       → take (c .literals + c .clauses + n + 1) d ≡ take (c .literals + c .clauses) cs ++ literalsIn f (at + 3) n ++ (pos 0 ∷ [])

@@ -8,7 +8,7 @@ use lib.Dec.{eqb}
 use lib.IntN.{ℤ}
 use lib.ListN.{length, take}
 use Rattle.plan.specs.Meaning.{Edge, Atom, PlanFile, numberOfKind}
-use Rattle.reader.specs.Format.{Step, refuse, next, done, Reading, refused, accepted}
+use Rattle.reader.specs.Format.{Step, refuse, next, done, Reading, refused, accepted, after}
 use Rattle.plan.specs.Ranged.{maxNodes, maxVariables, maxEdges, maxAtoms, maxClauses, maxLiterals, literals}
 use Rattle.plan.specs.Written.{flat}
 use Rattle.plan.specs.Refusals.{numberOf, valueOf}
@@ -38,6 +38,11 @@ pub record Room (c : counted.Plan) : Type 0 where
   pub atoms : c .atoms ≤ maxAtoms
   pub clauses : c .clauses ≤ maxClauses
   pub literals : c .literals ≤ maxLiterals
+
+-- what taking a record asks: the record at the offset ends in the file, and the counts are within the limits
+pub record Ready (f : List ℕ) (at : ℕ) (c : counted.Plan) : Type 0 where
+  pub within : after f at ≤ length f
+  pub room : Room c
 
 -- n things stand in a table: its first m numbers are the things as `flatten` writes them.
 pub record Filled {A B : Type 0} (flatten : List A → List B) (things : List A) (n m : ℕ) (table : List B) : Type 0 where

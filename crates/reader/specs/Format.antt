@@ -92,7 +92,7 @@ unfoldable pub literalsOk : ℕ → List ℤ → Bool
 literalsOk variables [] = true
 literalsOk variables (l ∷ ls) = literalOk variables l && literalsOk variables ls
 
--- "A variable may not serve an edge and an atom." Variable v serves one of the edges, one of the atoms.
+-- "A variable may not serve an edge and an atom." Whether variable v serves one of a list; one of the edges; one of the atoms.
 unfoldable pub serves : {A : Type 0} → (A → ℕ) → List A → ℕ → Bool
 serves variable [] v = false
 serves variable (x ∷ xs) v = eqb (variable x) v || serves variable xs v

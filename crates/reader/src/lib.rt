@@ -27,7 +27,7 @@ pub enum ReadAnswer {
 }
 
 // What a record leads to: a refusal; the next record's offset, with the counts so far; or the whole file's counts.
-pub enum Step {
+enum Step {
     Refuse(Refusal),
     Next(usize, Plan),
     Done(Plan),

@@ -6,7 +6,7 @@ ghost use lib.IntN.{ℤ, pos};
 ghost use lib.ListN.{length, take};
 ghost use Rattle.plan.specs.Tables.{edgeOf, atomOf};
 ghost use Rattle.reader.specs.Format.{after, literalsIn, edgeAt, atomAt, clauseAt, endAt, stepAt};
-ghost use Rattle.reader.specs.Filling.{Room, Takes, edgeRow, atomRow, lastIs};
+ghost use Rattle.reader.specs.Filling.{Room, Ready, Takes, edgeRow, atomRow, lastIs};
 use crate::Step;
 use crate::fields::atom_in;
 use crate::fields::atom_ok;
@@ -91,7 +91,7 @@ fn take_edge(
     edges: &mut [u16; Edge::TABLE],
     atoms: &[u16; Atom::TABLE],
 ) -> Step
-    requires { ⌜ (after (now file) at ≤ length (now file)) × Room counts ⌝ }
+    requires { ⌜ Ready (now file) at counts ⌝ }
     ensures { λ r. ⌜ ((cs : List ℤ) → Takes (edgeAt (now (file .entry)) at) counts (now (edges .entry)) (now (atoms .entry)) cs r (now (edges .exit)) (now (atoms .entry)) cs) ⌝ }
 {
     if word(file, at + 1) != 6 {
@@ -122,7 +122,7 @@ fn take_atom(
     edges: &[u16; Edge::TABLE],
     atoms: &mut [u16; Atom::TABLE],
 ) -> Step
-    requires { ⌜ (after (now file) at ≤ length (now file)) × Room counts ⌝ }
+    requires { ⌜ Ready (now file) at counts ⌝ }
     ensures { λ r. ⌜ ((cs : List ℤ) → Takes (atomAt (now (file .entry)) at) counts (now (edges .entry)) (now (atoms .entry)) cs r (now (edges .entry)) (now (atoms .exit)) cs) ⌝ }
 {
     if word(file, at + 1) != 9 {
@@ -147,7 +147,7 @@ fn take_atom(
 }
 
 fn take_clause(file: &[u8], at: usize, counts: Plan, clauses: &mut [i16; Clause::TABLE]) -> Step
-    requires { ⌜ (after (now file) at ≤ length (now file)) × Room counts ⌝ }
+    requires { ⌜ Ready (now file) at counts ⌝ }
     ensures { λ r. ⌜ ((es bs : List ℕ) → Takes (clauseAt (now (file .entry)) at) counts es bs (now (clauses .entry)) r es bs (now (clauses .exit))) ⌝ }
 {
     let len = wide(word(file, at + 1));

@@ -12,4 +12,10 @@ returns-4 c =
 
 pub ends-ok-spec : {M : Type 1} → statement M
 unfolding endsOk
-ends-ok-spec = tie.close (tie.spec (λ c. simp (le-ltb _ _ (c .if1 .taken))) (λ c. simp (lt-ltb _ _ (c .before .before .if1 .left), le-ltb _ _ (c .if2 .taken))) (λ c. simp (lt-ltb _ _ (c .before .before .before .if1 .left), lt-ltb _ _ (c .before .if2 .left), lt-leb 1 _ (c .if3 .taken))) returns-4)
+ends-ok-spec =
+    tie.close
+    (tie.spec
+    (λ c. simp (le-ltb _ _ (c .if1 .taken)))
+    (λ c. simp (lt-ltb _ _ (c .before .before .if1 .left), le-ltb _ _ (c .if2 .taken)))
+    (λ c. simp (lt-ltb _ _ (c .before .before .before .if1 .left), lt-ltb _ _ (c .before .if2 .left), lt-leb 1 _ (c .if3 .taken)))
+    returns-4)

@@ -1,11 +1,11 @@
 -- `take_atom` leads where the definition does: each way out by the tests on the way to it.
-use Rattle.reader.proofs.Kit.{_≡_, refl, sym, ap, _∙_, true, List, _++_, ℕ, _+_, _*_, arith, needs, lt-ltb, le-ltb, eq-eqb, ne-eqb, eqb-true, not-true, not-false, ltb, eqb, take}
+use Rattle.reader.proofs.Kit.{_≡_, sym, ap, _∙_, true, List, _++_, ℕ, _+_, _*_, arith, needs, lt-ltb, le-ltb, eq-eqb, ne-eqb, eqb-true, not-true, not-false, ltb, eqb, take}
 use mathlib.Core.Path.{ap₂}
 use Rattle.plan.specs.Meaning.{Atom}
 use Rattle.plan.specs.declared.Plan as counted
 use Rattle.reader.specs.Format.{lenAt, after, word, kindIn, atomIn, atomOk}
-use Rattle.reader.specs.Filling.{refuses, leads, lastIs, atomRow}
-use Rattle.reader.proofs.Steps.{atom-step, atom-tables}
+use Rattle.reader.specs.Filling.{leads, lastIs, atomRow}
+use Rattle.reader.proofs.Steps.{bad-length, out-of-range, too-many, shared, taken, atom-tests, atom-tables}
 use Rattle.reader.proofs.records.take_atom.Statement.{statement}
 use Rattle.reader.proofs.records.take_atom.Tie as tie
 
@@ -48,28 +48,12 @@ module _ (c : tie.After-uses) where
   used : lastIs 2 2 (others tested) (word (file tested) (at tested + 10)) ≡ c .uses .result
   used = sym (c .uses .ensures ∙ ap (λ (x : Atom). lastIs 2 2 (others tested) (x .variable)) (tested .before .before .atom-in .ensures))
 
-returns : tie.Need-returns
-returns c = λ cs p t.
-    let a = c .before .before .before .args in
-    rw (atom-step (a .file .now) (a .at) t, ne-eqb _ 9 (λ e. c .if1 .taken (c .before .word .ensures ∙ e))) (refuses refl refl)
-
-returns-3 : tie.Need-returns-3
-returns-3 c = λ cs p t.
-    let d = c .before .before in
-    rw (atom-step (file d) (at d) t, long d, ranged d ∙ not-false _ (c .before .if2 .left), le-ltb _ 64 (c .if3 .taken)) (refuses refl refl)
-
-returns-4 : tie.Need-returns-4
-returns-4 c = λ cs p t.
-    let d = c .before in
-    let e = tested d in
-    rw (atom-step (file e) (at e) t, long e, passed d, room d, used d ∙ c .if4 .taken) (refuses refl refl)
-
 returns-5 : tie.Need-returns-5
 returns-5 c = λ cs p t.
     let d = c .before .before .before in
     let e = tested d in
     let before = take (counts e .atoms * 5) (entry e .args .atoms .now) in
-    rw (atom-step (file e) (at e) t, long e, passed d, room d, used d ∙ c .before .before .if4 .left)
+    taken (atom-tests (file e) (at e) t) (long e) (passed d) (room d) (used d ∙ c .before .before .if4 .left)
     (leads (behind e) (atom-tables (file e) (at e) t (c .put-atom .ensures ∙ ap (λ (x : Atom). before ++ atomRow x) (e .before .before .atom-in .ensures))))
 
 pub take-atom-spec : {M : Type 1} → statement M
@@ -78,15 +62,15 @@ take-atom-spec =
     (tie.spec
     (λ c. search needs)
     (λ c κs. search needs)
-    returns
+    (λ c cs p t. let s = c .before .before .before .args in bad-length (atom-tests (s .file .now) (s .at) t) (ne-eqb _ 9 (λ e. c .if1 .taken (c .before .word .ensures ∙ e))))
     (λ c κs. search needs)
     (λ c κs. search needs)
     (λ c κs. search needs)
-    (λ c cs p t. let d = c .before in rw (atom-step (file d) (at d) t, long d, ranged d ∙ not-true _ (c .if2 .taken)) (refuses refl refl))
-    returns-3
+    (λ c cs p t. let d = c .before in out-of-range (atom-tests (file d) (at d) t) (long d) (ranged d ∙ not-true _ (c .if2 .taken)))
+    (λ c cs p t. let d = c .before .before in too-many (atom-tests (file d) (at d) t) (long d) (ranged d ∙ not-false _ (c .before .if2 .left)) (le-ltb _ 64 (c .if3 .taken)))
     (λ c. search needs)
     (λ c κs. search needs)
-    returns-4
+    (λ c cs p t. let d = c .before in let e = tested d in shared (atom-tests (file e) (at e) t) (long e) (passed d) (room d) (used d ∙ c .if4 .taken))
     (λ c κs. search needs)
     (λ c. search needs)
     (λ c. search needs)

@@ -2,8 +2,8 @@
 use Rattle.reader.proofs.Kit.{_≡_, refl, sym, ap, _∙_, true, List, ℕ, _+_, _/_, _<_, arith, needs, lt-ltb, le-ltb, lt-leb, le-leb, eq-eqb, ne-eqb, not-true, not-false, ltb, leb}
 use Rattle.plan.specs.declared.Plan as counted
 use Rattle.reader.specs.Format.{lenAt, clauseIn, clauseLen, literalsIn, literalsOk}
-use Rattle.reader.specs.Filling.{refuses, leads}
-use Rattle.reader.proofs.Steps.{clause-step, clause-tables}
+use Rattle.reader.specs.Filling.{leads}
+use Rattle.reader.proofs.Steps.{bad-length, out-of-range, too-many, taken, clause-tests, clause-tables}
 use Rattle.reader.proofs.records.take_clause.Statement.{statement}
 use Rattle.reader.proofs.records.take_clause.Tie as tie
 
@@ -33,7 +33,8 @@ module _ (c : tie.After-literals-ok) where
   long = simp (← len-is measured, le-leb 2 _ (c .before .before .if1 .left), eq-eqb _ _ (c .before .if2 .left))
 
   ranged : literalsOk (counts measured .variables) (clauseIn (file measured) (at measured)) ≡ c .literals-ok .result
-  ranged = sym (c .literals-ok .ensures ∙ ap (λ n. literalsOk (counts measured .variables) (literalsIn (file measured) (at measured + 3) (n / 2))) (len-is measured))
+  ranged =
+      sym (c .literals-ok .ensures ∙ ap (λ n. literalsOk (counts measured .variables) (literalsIn (file measured) (at measured + 3) (n / 2))) (len-is measured))
 
 module _ (c : tie.Else4) where
   abbrev tested : tie.After-literals-ok
@@ -59,59 +60,42 @@ module _ (c : tie.Else5) where
   most = ap (λ n. leb (counts start .literals + n / 2) 4096) (sym (len-is start)) ∙ le-leb _ 4096 (c .if5 .left)
 
   ended : at start + 3 + start .wide .result < 18446744073709551616
-  ended = omega (arith, len-is start, entry start .pre .0, entry start .good)
-
-returns : tie.Need-returns
-unfolding clauseLen
-returns c = λ es bs p t.
-    let d = c .before in
-    rw (clause-step (file d) (at d) t, ← len-is d, lt-leb 2 _ (c .if1 .taken)) (refuses refl refl)
-
-returns-2 : tie.Need-returns-2
-unfolding clauseLen
-returns-2 c = λ es bs p t.
-    let d = c .before .before in
-    rw (clause-step (file d) (at d) t, ← len-is d, le-leb 2 _ (c .before .if1 .left), ne-eqb _ _ (c .if2 .taken)) (refuses refl refl)
-
-returns-3 : tie.Need-returns-3
-returns-3 c = λ es bs p t.
-    let d = c .before in
-    let b = measured d in
-    rw (clause-step (file b) (at b) t, long d, ranged d ∙ not-true _ (c .if3 .taken)) (refuses refl refl)
+  ended = omega (arith, len-is start, entry start .pre .within, entry start .good)
 
 returns-4 : tie.Need-returns-4
 returns-4 c = λ es bs p t.
     let d = c .before .before .before in
     let b = measured d in
-    rw (clause-step (file b) (at b) t, long d, ranged d ∙ not-false _ (c .before .before .if3 .left), le-ltb _ 1024 (c .if4 .taken)) (refuses refl refl)
+    too-many (clause-tests (file b) (at b) t) (long d) (ranged d ∙ not-false _ (c .before .before .if3 .left)) (simp (le-ltb _ 1024 (c .if4 .taken)))
 
 returns-5 : tie.Need-returns-5
 returns-5 c = λ es bs p t.
     let d = c .before .before in
     let b = begun d in
-    rw (clause-step (file b) (at b) t, long (tested d), passed d, fewer d, ← len-is b, lt-leb _ 4096 (c .if5 .taken)) (refuses refl refl)
+    too-many (clause-tests (file b) (at b) t) (long (tested d)) (passed d) (simp (fewer d, ← len-is b, lt-leb _ 4096 (c .if5 .taken)))
 
 returns-6 : tie.Need-returns-6
 returns-6 c = λ es bs p t.
     let e = c .before .before .before .before .before in
     let d = fourth e in
     let b = begun d in
-    rw (clause-step (file b) (at b) t, long (tested d), passed d, fewer d, most e)
+    taken (clause-tests (file b) (at b) t) (long (tested d)) (passed d) (simp (fewer d, most e)) refl
     (leads (ap (λ n. at b + 3 + n) (sym (len-is b))) (clause-tables (file b) (at b) t (ap (λ n. n / 2) (len-is b)) (c .before .before .copy-literals .ensures)))
 
 pub take-clause-spec : {M : Type 1} → statement M
+unfolding clauseLen
 take-clause-spec =
     tie.close
     (tie.spec
     (λ c. search needs)
     (λ c κs. search needs)
     (λ c κs. search needs)
-    returns
+    (λ c es bs p t. let d = c .before in bad-length (clause-tests (file d) (at d) t) (simp (← len-is d, lt-leb 2 _ (c .if1 .taken))))
     (λ c. search needs)
-    returns-2
+    (λ c es bs p t. let d = c .before .before in bad-length (clause-tests (file d) (at d) t) (simp (← len-is d, le-leb 2 _ (c .before .if1 .left), ne-eqb _ _ (c .if2 .taken))))
     (λ c. search needs)
     (λ c κs. search needs)
-    returns-3
+    (λ c es bs p t. let d = c .before in let b = measured d in out-of-range (clause-tests (file b) (at b) t) (long d) (ranged d ∙ not-true _ (c .if3 .taken)))
     returns-4
     (λ c. search needs)
     returns-5

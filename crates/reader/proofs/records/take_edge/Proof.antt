@@ -1,10 +1,10 @@
 -- `take_edge` leads where the definition does: each way out by the tests on the way to it.
-use Rattle.reader.proofs.Kit.{_≡_, refl, sym, ap, _∙_, true, List, _++_, ℕ, _+_, _*_, arith, needs, lt-ltb, le-ltb, eq-eqb, ne-eqb, eqb-true, not-true, not-false, ltb, eqb, take}
+use Rattle.reader.proofs.Kit.{_≡_, sym, ap, _∙_, true, List, _++_, ℕ, _+_, _*_, arith, needs, lt-ltb, le-ltb, eq-eqb, ne-eqb, eqb-true, not-true, not-false, ltb, eqb, take}
 use Rattle.plan.specs.Meaning.{Edge}
 use Rattle.plan.specs.declared.Plan as counted
 use Rattle.reader.specs.Format.{lenAt, after, word, edgeIn, edgeOk}
-use Rattle.reader.specs.Filling.{refuses, leads, lastIs, edgeRow}
-use Rattle.reader.proofs.Steps.{edge-step, edge-tables}
+use Rattle.reader.specs.Filling.{leads, lastIs, edgeRow}
+use Rattle.reader.proofs.Steps.{bad-length, out-of-range, too-many, shared, taken, edge-tests, edge-tables}
 use Rattle.reader.proofs.records.take_edge.Statement.{statement}
 use Rattle.reader.proofs.records.take_edge.Tie as tie
 
@@ -47,28 +47,12 @@ module _ (c : tie.After-uses) where
   used : lastIs 4 4 (others tested) (word (file tested) (at tested + 7)) ≡ c .uses .result
   used = sym (c .uses .ensures ∙ ap (λ (x : Edge). lastIs 4 4 (others tested) (x .variable)) (tested .before .edge-in .ensures))
 
-returns : tie.Need-returns
-returns c = λ cs p t.
-    let a = c .before .before .before .args in
-    rw (edge-step (a .file .now) (a .at) t, ne-eqb _ 6 (λ e. c .if1 .taken (c .before .word .ensures ∙ e))) (refuses refl refl)
-
-returns-3 : tie.Need-returns-3
-returns-3 c = λ cs p t.
-    let d = c .before .before in
-    rw (edge-step (file d) (at d) t, long d, ranged d ∙ not-false _ (c .before .if2 .left), le-ltb _ 256 (c .if3 .taken)) (refuses refl refl)
-
-returns-4 : tie.Need-returns-4
-returns-4 c = λ cs p t.
-    let d = c .before in
-    let e = tested d in
-    rw (edge-step (file e) (at e) t, long e, passed d, room d, used d ∙ c .if4 .taken) (refuses refl refl)
-
 returns-5 : tie.Need-returns-5
 returns-5 c = λ cs p t.
     let d = c .before .before .before in
     let e = tested d in
     let before = take (counts e .edges * 3) (entry e .args .edges .now) in
-    rw (edge-step (file e) (at e) t, long e, passed d, room d, used d ∙ c .before .before .if4 .left)
+    taken (edge-tests (file e) (at e) t) (long e) (passed d) (room d) (used d ∙ c .before .before .if4 .left)
     (leads (behind e) (edge-tables (file e) (at e) t (c .put-edge .ensures ∙ ap (λ (x : Edge). before ++ edgeRow x) (e .before .edge-in .ensures))))
 
 pub take-edge-spec : {M : Type 1} → statement M
@@ -77,14 +61,14 @@ take-edge-spec =
     (tie.spec
     (λ c. search needs)
     (λ c κs. search needs)
-    returns
+    (λ c cs p t. let s = c .before .before .before .args in bad-length (edge-tests (s .file .now) (s .at) t) (ne-eqb _ 6 (λ e. c .if1 .taken (c .before .word .ensures ∙ e))))
     (λ c κs. search needs)
     (λ c κs. search needs)
-    (λ c cs p t. let d = c .before in rw (edge-step (file d) (at d) t, long d, ranged d ∙ not-true _ (c .if2 .taken)) (refuses refl refl))
-    returns-3
+    (λ c cs p t. let d = c .before in out-of-range (edge-tests (file d) (at d) t) (long d) (ranged d ∙ not-true _ (c .if2 .taken)))
+    (λ c cs p t. let d = c .before .before in too-many (edge-tests (file d) (at d) t) (long d) (ranged d ∙ not-false _ (c .before .if2 .left)) (le-ltb _ 256 (c .if3 .taken)))
     (λ c. search needs)
     (λ c κs. search needs)
-    returns-4
+    (λ c cs p t. let d = c .before in let e = tested d in shared (edge-tests (file e) (at e) t) (long e) (passed d) (room d) (used d ∙ c .if4 .taken))
     (λ c κs. search needs)
     (λ c. search needs)
     (λ c. search needs)

@@ -1,7 +1,7 @@
 -- `take_record` leads where the definition does, by the record's tag.
 use Rattle.reader.proofs.Kit.{_≡_, refl, sym, _∙_, true, List, ℕ, _≤_, arith, needs, ne-eqb, not-true, not-false, length}
 use Rattle.reader.specs.Format.{fits, after, stepAt}
-use Rattle.reader.specs.Filling.{Room, refuses}
+use Rattle.reader.specs.Filling.{Ready, refuses}
 use Rattle.reader.proofs.Steps.{fits-is}
 use Rattle.reader.proofs.records.take_record.Statement.{statement}
 use Rattle.reader.proofs.records.take_record.Tie as tie
@@ -23,14 +23,15 @@ module _ (c : tie.After-shared-slice-known2) where
   within : after file at ≤ length file
   within = fits-is file at fitting
 
-  asked : (after file at ≤ length file) × Room (entry .args .counts)
-  asked = (within, entry .pre .1)
+  ready : Ready file at (entry .args .counts)
+  ready = record { within = within; room = entry .pre .1 }
 
 returns-7 : tie.Need-returns-7
 unfolding stepAt
 returns-7 c = λ p t.
     let r = c .match .rest in
-    rw (fitting (c .before), ne-eqb _ 1 (r .0 .0 .0 .0 .1), ne-eqb _ 2 (r .0 .0 .0 .1), ne-eqb _ 3 (r .0 .0 .1), ne-eqb _ 4 (r .0 .1), ne-eqb _ 5 (r .1)) (refuses refl refl)
+    let q = r .0 .0 .0 in
+    rw (fitting (c .before), ne-eqb _ 1 (q .0 .1), ne-eqb _ 2 (q .1), ne-eqb _ 3 (r .0 .0 .1), ne-eqb _ 4 (r .0 .1), ne-eqb _ 5 (r .1)) (refuses refl refl)
 
 pub take-record-spec : {M : Type 1} → statement M
 unfolding stepAt
@@ -40,9 +41,9 @@ take-record-spec =
     (λ c κs. search needs)
     (λ c p t. rw (sym (c .before .record-fits .ensures) ∙ not-true _ (c .if1 .taken)) (refuses refl refl))
     (λ c. omega (arith, within c))
-    (λ c κs. asked (c .before .before .before))
-    (λ c κs. asked (c .before .before .before))
-    (λ c κs. asked (c .before .before))
+    (λ c κs. ready (c .before .before .before))
+    (λ c κs. ready (c .before .before .before))
+    (λ c κs. ready (c .before .before))
     (λ c κs. within (c .before))
     (λ c p t. rw (fitting (c .before), c .match .keys1) (refuses refl refl))
     (λ c p t. let d = c .before .before .before in rw (fitting (d .before), d .match .keys2) (c .take-edge .ensures _ p t))
