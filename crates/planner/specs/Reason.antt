@@ -1,14 +1,13 @@
 -- The statement of the public call `reason`: its answer, and the output buffer before and after.
 -- Assumes nothing.
-use mathlib.Core.Path.{_≡_}
 use mathlib.Core.Logic.{_⊎_}
 use mathlib.Core.List.{List}
-use Prim.Native.Nat.{ℕ, _-_, _≤_, _<_}
+use Prim.Native.Nat.{ℕ, _-_, _<_}
 use lib.ListN.{length}
 use lib.IntN.{ℤ}
 use Rattle.plan.specs.Meaning.{PlanFile, atom}
 use Rattle.plan.specs.Reason.{holds, fails, neither, ReasonIs}
-use Rattle.plan.specs.Buffers.{Kept, Wrote}
+use Rattle.plan.specs.Buffers.{Kept, Answered}
 use Rattle.reader.specs.Format.{readPlan}
 use Rattle.planner.specs.declared.ReasonAnswer.{ReasonAnswer}
 use Rattle.planner.specs.declared.ReasonAnswer.the-variants.{Refused, Holds, Fails, Open}
@@ -17,19 +16,13 @@ use Rattle.planner.specs.Refusing.{Met, clear, afterReading, requireLeng
 abbrev pub reasonChecks : List ℤ → ℕ → PlanFile → Met
 reasonChecks a k φ = requireLength φ a (requireValues isValue a (requireAtom φ k (clear φ)))
 
--- The clause is written, and its length answered.
-pub record Given (clause before after : List ℤ) (n : ℕ) : Type 0 where
-  pub counted : n ≡ length clause
-  pub fits : length clause ≤ length before
-  pub wrote : Wrote clause before after
-
 abbrev pub ReasonCase : PlanFile → List ℤ → ℕ → List ℤ → List ℤ → ReasonAnswer → Type 0
 -- "12: output buffer too short for the exact answer; length needed"
 ReasonCase φ a k before after (Refused y) =
     (r : List ℤ) × (ReasonIs φ a (atom (φ .atoms) (k - 1)) (holds r) ⊎ ReasonIs φ a (atom (φ .atoms) (k - 1)) (fails r))
     × (length before < length r) × Names 12 (length r) y × Kept before after
-ReasonCase φ a k before after (Holds n) = (r : List ℤ) × ReasonIs φ a (atom (φ .atoms) (k - 1)) (holds r) × Given r before after n
-ReasonCase φ a k before after (Fails n) = (r : List ℤ) × ReasonIs φ a (atom (φ .atoms) (k - 1)) (fails r) × Given r before after n
+ReasonCase φ a k before after (Holds n) = (r : List ℤ) × ReasonIs φ a (atom (φ .atoms) (k - 1)) (holds r) × Answered r before after n
+ReasonCase φ a k before after (Fails n) = (r : List ℤ) × ReasonIs φ a (atom (φ .atoms) (k - 1)) (fails r) × Answered r before after n
 ReasonCase φ a k before after Open = ReasonIs φ a (atom (φ .atoms) (k - 1)) neither × Kept before after
 
 abbrev pub ReasonBy : Met → List ℤ → ℕ → List ℤ → List ℤ → ReasonAnswer → Type 0

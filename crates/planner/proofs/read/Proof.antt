@@ -18,7 +18,7 @@ unfolding afterReading
 read-case (refused n v) (Refused y) es bs cs h = record { why = y; names = record { number = h .0; value = h .1 }; is = refl }
 read-case (refused n v) (Accepted p) es bs cs h = absurd h
 read-case (accepted φ) (Refused y) es bs cs h = h
-read-case (accepted φ) (Accepted p) es bs cs h = record { nodes = h .nodes; variables = h .variables; edges = h .edges; atoms = h .atoms; clauses = h .clauses; literals = h .literals }
+read-case (accepted φ) (Accepted p) es bs cs h = record { nodes = h .nodes; variables = h .variables; edges = h .edges .count; atoms = h .atoms .count; clauses = h .clauses .count; literals = h .literals }
 
 pub read-spec : {M : Type 1} → statement M
 read-spec = tie.close (tie.spec (λ c κs. search needs) (λ c. record { case = read-case _ _ _ _ _ (c .read-into .ensures) }))

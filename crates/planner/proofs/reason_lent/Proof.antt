@@ -22,14 +22,6 @@ use Rattle.planner.proofs.Stating.{meets, named, length-fails, length-h
 use Rattle.planner.proofs.reason_lent.Statement.{statement}
 use Rattle.planner.proofs.reason_lent.Tie as tie
 
--- the clause stands in the buffer
-given : {R : List ℤ → Type 0} {n : ℕ} {before after : List ℤ} → (g : answers.Given R n before after) → Given (g .clause) before after n
-given {R} {n} {before} {after} g = record {
-  counted = g .many;
-  fits = subst (λ (x : ℕ). x ≤ length before) (g .many) (g .room);
-  wrote = g .out ∙ ap (λ (x : ℕ). g .clause ++ drop x before) (g .many);
-}
-
 -- the answer to a question for a reason, as that of the call
 abbrev answerOf : answer.Answer → ReasonAnswer
 answerOf (said.Holds n) = Holds n
@@ -39,11 +31,10 @@ answerOf (said.Short n) = Refused (NoRoom n)
 
 answered : (φ : PlanFile) (a : List ℤ) (k : ℕ) (before after : List ℤ) (x : answer.Answer) → AnswerIs φ a (atom (φ .atoms) (k - 1)) x before after
     → ReasonCase φ a k before after (answerOf x)
-answered φ a k before after (said.Holds n) g = (g .clause, g .is, given g)
-answered φ a k before after (said.Fails n) g = (g .clause, g .is, given g)
+answered φ a k before after (said.Holds n) g = g
+answered φ a k before after (said.Fails n) g = g
 answered φ a k before after said.Open g = g
-answered φ a k before after (said.Short n) g =
-    (g .clause, g .is, subst (λ (z : ℕ). length before < z) (g .many) (g .short), record { number = refl; value = sym (g .many) }, g .same)
+answered φ a k before after (said.Short n) g = (g .0, g .1, g .2 .short, record { number = refl; value = sym (g .2 .counted) }, g .2 .kept)
 
 -- the plan file, the assignment and the output as it was
 module _ (c : tie.Start) where
@@ -103,7 +94,7 @@ module _ (c : tie.After-reason) where
   answer-of : {x : answer.Answer} → c .reason .result ≡ x → ReasonCase (φ (s e)) (a (s e)) (s e .args .atom) (old (s e)) new (answerOf x)
   answer-of {x} q =
       answered (φ (s e)) (a (s e)) (s e .args .atom) (old (s e)) new x
-      (subst (λ y. AnswerIs (φ (s e)) (a (s e)) (atom (φ (s e) .atoms) (s e .args .atom - 1)) y (old (s e)) new) q (c .reason .ensures (φ (s e)) refl))
+      (subst (λ y. AnswerIs (φ (s e)) (a (s e)) (atom (φ (s e) .atoms) (s e .args .atom - 1)) y (old (s e)) new) q (c .reason .ensures (φ (s e))))
 
 pub reason-lent-spec : {M : Type 1} → statement M
 reason-lent-spec =
