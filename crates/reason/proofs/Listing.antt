@@ -80,12 +80,12 @@ pub premises-count : (m : List Bool) (n v : ℕ) → length (premises m (suc n))
 unfolding premises
 premises-count m n v = length-append (premises m n) _ ∙ ap (λ (k : ℕ). length (premises m n) + k) (piece-length (getD m n false) (suc n) v)
 
-pub premises-zero : (m : List Bool) → length (premises m 0) ≡ 0
+pub premises-zero : (m : List Bool) → premises m 0 ≡ []
 unfolding premises
 premises-zero m = refl
 
 pub premises-most : (m : List Bool) (n : ℕ) → length (premises m n) ≤ n
-premises-most m zero = omega (arith, premises-zero m)
+premises-most m zero = omega (arith, ap length (premises-zero m))
 premises-most m (suc n) = omega (arith, premises-most m n, premises-count m n 0, piece-few (getD m n false) 0)
 
 pub premises-fewer : (m : List Bool) (k n : ℕ) → k ≤ n → length (premises m k) ≤ length (premises m n)
@@ -97,21 +97,27 @@ premises-fewer m k (suc n) l = ⊎-elim
 
 -- ---- the buffer
 
-appends-none : (at : ℕ) (out : List ℤ) → Appends at [] out out at
-appends-none at out w before e s =
-    let p : w ++ [] ≡ w = append-nil w in
-    (subst (λ x. Wrote x before out) (sym p) s, e ∙ ap length (sym p))
+pub appends-none : (at : ℕ) (out : List ℤ) → Appends at [] out out at
+appends-none at out = record { ends = omega arith; wrote = λ w before e s. subst (λ x. Wrote x before out) (sym (append-nil w)) s }
 
 appends-one : (at : ℕ) (x : ℤ) (out : List ℤ) → at < length out → Appends at (x ∷ []) out (set out at x) (at + 1)
-appends-one at x out l w before e s =
-    let n : length (w ++ (x ∷ [])) ≡ length w + 1 = length-append w (x ∷ []) in
-    let h : length w < length before = omega (arith, ap length s, length-append w (drop (length w) before), length-drop (length w) before) in
-    let d : drop (length w) before ≡ getD before (length w) x ∷ drop (suc (length w)) before = drop-cons before (length w) x h in
-    let k : suc (length w) ≡ length (w ++ (x ∷ [])) = omega arith in (
-      ap (λ o. set o at x) (s ∙ ap (λ r. w ++ r) d) ∙ set-at w (getD before (length w) x) (drop (suc (length w)) before) x at (sym e)
-          ∙ ap (λ (i : ℕ). w ++ (x ∷ drop i before)) k ∙ sym (append-assoc w (x ∷ []) (drop (length (w ++ (x ∷ []))) before)),
-      omega (arith, n),
-    )
+appends-one at x out l = record { ends = refl; wrote = there }
+  where
+    there : (w before : List ℤ) → at ≡ length w → Wrote w before out → Wrote (w ++ (x ∷ [])) before (set out at x)
+    there w before e s =
+        let h : length w < length before = omega (arith, ap length s, length-append w (drop (length w) before), length-drop (length w) before) in
+        let d : drop (length w) before ≡ getD before (length w) x ∷ drop (suc (length w)) before = drop-cons before (length w) x h in
+        let k : suc (length w) ≡ length (w ++ (x ∷ [])) = omega (arith, length-append w (x ∷ [])) in
+        ap (λ o. set o at x) (s ∙ ap (λ r. w ++ r) d) ∙ set-at w (getD before (length w) x) (drop (suc (length w)) before) x at (sym e)
+        ∙ ap (λ (i : ℕ). w ++ (x ∷ drop i before)) k ∙ sym (append-assoc w (x ∷ []) (drop (length (w ++ (x ∷ []))) before))
+
+pub appends-then : {at mid stop : ℕ} {p q out out′ out″ : List ℤ} → Appends at p out out′ mid → Appends mid q out′ out″ stop → Appends at (p ++ q) out out″ stop
+appends-then {mid = mid} {p = p} {q = q} {out″ = out″} f g = record {
+  ends = omega (arith, f .ends, g .ends, length-append p q);
+  wrote = λ w before e s.
+      let m : mid ≡ length (w ++ p) = omega (arith, f .ends, length-append w p) in
+      subst (λ x. Wrote x before out″) (append-assoc w p q) (g .wrote (w ++ p) before m (f .wrote w before e s));
+}
 
 -- what one mark appends
 pub appends-unmarked : (b sign : Bool) (v at : ℕ) (out : List ℤ) → b ≡ false → Appends at (map (literalOf sign) (piece b v)) out out at
@@ -126,17 +132,7 @@ appends-marked false sign v at out e l = absurd (false≢true e)
 pub clause-length : (x : ℤ) (sign : Bool) (m : List Bool) (n : ℕ) → length (clauseOf x sign m n) ≡ suc (length (premises m n))
 clause-length x sign m n = ap suc (length-map (premises m n) (literalOf sign))
 
--- the first literal alone, and one mark more
-pub wrote-first : (x : ℤ) (sign : Bool) (m : List Bool) (out : List ℤ) → 0 < length out → Wrote (clauseOf x sign m 0) out (set out 0 x)
+pub premises-next : (sign : Bool) (m : List Bool) (n : ℕ)
+    → map (literalOf sign) (premises m n) ++ map (literalOf sign) (piece (getD m n false) (n + 1)) ≡ map (literalOf sign) (premises m (n + 1))
 unfolding premises
-wrote-first x sign m [] l = absurd (omega arith)
-wrote-first x sign m (y ∷ out) l = refl
-
-pub wrote-next : (x : ℤ) (sign : Bool) (m : List Bool) (n at r : ℕ) (before out out′ : List ℤ) → at ≡ suc (length (premises m n)) → Wrote (clauseOf x sign m n) before out
-    → Appends at (map (literalOf sign) (piece (getD m n false) (n + 1))) out out′ r → Wrote (clauseOf x sign m (n + 1)) before out′ × (r ≡ suc (length (premises m (n + 1))))
-unfolding premises
-wrote-next x sign m n at r before out out′ e s f =
-    let q = f (clauseOf x sign m n) before (e ∙ sym (clause-length x sign m n)) s in
-    let k : clauseOf x sign m n ++ map (literalOf sign) (piece (getD m n false) (n + 1)) ≡ clauseOf x sign m (n + 1) =
-    rw (add-one n) (ap (λ t. x ∷ t) (sym (map-append (literalOf sign) (premises m n) (piece (getD m n false) (suc n))))) in
-    (subst (λ w. Wrote w before out′) k (q .0), q .1 ∙ ap length k ∙ clause-length x sign m (n + 1))
+premises-next sign m n = rw (add-one n) (sym (map-append (literalOf sign) (premises m n) (piece (getD m n false) (suc n))))

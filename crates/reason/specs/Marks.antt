@@ -100,6 +100,7 @@ premises m (suc n) = premises m n ++ piece (getD m n false) (suc n)
 abbrev pub clauseOf : ℤ → Bool → List Bool → ℕ → List ℤ
 clauseOf x sign m n = x ∷ map (literalOf sign) (premises m n)
 
--- A buffer that starts with any w goes on with the literals p.
-abbrev pub Appends : ℕ → List ℤ → List ℤ → List ℤ → ℕ → Type 0
-Appends at p out out′ r = (w before : List ℤ) → at ≡ length w → Wrote w before out → Wrote (w ++ p) before out′ × (r ≡ length (w ++ p))
+-- The literals p are put into a buffer from the place `at` on: whatever w it starts with, it then starts with w and p.
+pub record Appends (at : ℕ) (p out out′ : List ℤ) (end : ℕ) : Type 0 where
+  pub ends : end ≡ at + length p
+  pub wrote : (w before : List ℤ) → at ≡ length w → Wrote w before out → Wrote (w ++ p) before out′

@@ -10,10 +10,9 @@ ghost use mathlib.Core.Path.{_≡_};
 ghost use mathlib.Core.Bool.{true, false, not};
 ghost use mathlib.Core.List.{map};
 ghost use mathlib.Core.Logic.{_↔_};
-ghost use Prim.Native.Nat.{suc, _+_, _*_, _<_, _≤_};
+ghost use Prim.Native.Nat.{_+_, _*_, _<_, _≤_};
 ghost use lib.Dec.{T};
 ghost use lib.ListN.{length};
-ghost use Rattle.plan.specs.Buffers.{Wrote};
 ghost use Rattle.plan.specs.Closing.{Settles};
 ghost use Rattle.plan.specs.Meaning.{atom, literalOf, trueIn};
 ghost use Rattle.plan.specs.Ranged.{maxNodes, maxVariables};
@@ -254,19 +253,19 @@ fn write_mark(mark: bool, variable: usize, sign: bool, at: usize, out: &mut [i16
     at + 1
 }
 
-// Writes a clause: its first literal, and then those of the marked variables.
-fn write_clause(first: i16, sign: bool, marks: &Marks, variables: usize, out: &mut [i16])
+// Writes the literals of the marked variables from the place `at` on, and returns the place behind them.
+fn write_marks(sign: bool, marks: &Marks, variables: usize, at: usize, out: &mut [i16]) -> usize
     requires { ⌜ variables ≤ maxVariables ⌝ }
-    requires { ⌜ suc (length (premises (now marks) variables)) ≤ length (now out) ⌝ }
-    ensures { λ _. ⌜ Wrote (clauseOf first sign (now (marks .entry)) variables) (now (out .entry)) (now (out .exit)) ⌝ }
+    requires { ⌜ at + length (premises (now marks) variables) ≤ length (now out) ⌝ }
+    ensures { λ r. ⌜ Appends at (map (literalOf sign) (premises (now (marks .entry)) variables)) (now (out .entry)) (now (out .exit)) r ⌝ }
 {
-    out[0] = first;
-    let mut at = 1;
+    let mut end = at;
     let mut v = 0;
     while v < variables {
-        at = write_mark(marks[v], v + 1, sign, at, out);
+        end = write_mark(marks[v], v + 1, sign, end, out);
         v += 1;
     }
+    end
 }
 
 // Answers with the clause of a variable and the marked ones, where there is room for it: the variable's own literal is on where `holds`,
@@ -286,8 +285,8 @@ fn write_answer(
     if out.len() < length {
         return Answer::Short(length);
     }
-    let first = plan::literal_of(plan::wide(variable), holds);
-    write_clause(first, !holds, marks, variables, out);
+    let at = write_mark(true, plan::wide(variable), holds, 0, out);
+    write_marks(!holds, marks, variables, at, out);
     if holds {
         return Answer::Holds(length);
     }

@@ -38,5 +38,5 @@ returns c =
 pub count-marks-spec : {M : Type 1} → statement M
 count-marks-spec =
     tie.close
-    (tie.spec Inv-loop μ-loop (λ c. (omega arith, sym (premises-zero (c .args .marks .now)))) (λ c. omega arith) (λ c κs. tt) add-count
+    (tie.spec Inv-loop μ-loop (λ c. (omega arith, ap length (sym (premises-zero (c .args .marks .now))))) (λ c. omega arith) (λ c κs. tt) add-count
     (λ c. omega arith) (λ c. omega arith) loop-again returns)

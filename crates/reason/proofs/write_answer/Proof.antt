@@ -1,20 +1,17 @@
 -- `reason::write_answer`: the clause has one literal more than there are marks, and is written exactly if there is room.
-use mathlib.Core.Path.{_≡_, refl, ap, subst, _∙_}
+use mathlib.Core.Path.{_≡_, refl, subst}
 use mathlib.Core.Bool.{not}
-use mathlib.Core.List.{List}
-use Prim.Native.Nat.{_+_}
+use mathlib.Core.List.{List, []}
+use Prim.Native.Nat.{ℕ, _+_}
 use borrow.Author.Needs.{needs}
 use native.Mathlib.Omega.{arith}
 use lib.IntN.{ℤ}
 use lib.ListN.{length}
-use mir.Syntax.{w16}
-use mir.Val.{SFits}
-use mir.Facts.{toZ-ofZ}
 use Rattle.plan.specs.Buffers.{Wrote}
 use Rattle.plan.specs.Meaning.{literalOf}
 use Rattle.reason.specs.Answers.{Given}
 use Rattle.reason.specs.Marks.{clauseOf}
-use Rattle.reason.proofs.Listing.{clause-length, premises-most}
+use Rattle.reason.proofs.Listing.{clause-length, premises-most, appends-then}
 use Rattle.reason.proofs.write_answer.Statement.{statement}
 use Rattle.reason.proofs.write_answer.Tie as tie
 
@@ -23,11 +20,11 @@ module _ (c : tie.After-count-marks) where
   abbrev begin : tie.Start
   begin = c .before
 
-  abbrev clauseFrom : ℤ → List ℤ
-  clauseFrom x = clauseOf x (not (begin .args .holds)) (begin .args .marks .now) (begin .args .variables)
+  abbrev clauseFrom : ℕ → List ℤ
+  clauseFrom v = clauseOf (literalOf (begin .args .holds) v) (not (begin .args .holds)) (begin .args .marks .now) (begin .args .variables)
 
   abbrev clause : List ℤ
-  clause = clauseFrom (literalOf (begin .args .holds) (begin .args .variable))
+  clause = clauseFrom (begin .args .variable)
 
   counted : c .count-marks .result + 1 ≡ length clause
   counted = omega (arith, c .count-marks .ensures, clause-length (literalOf (begin .args .holds) (begin .args .variable)) (not (begin .args .holds)) (begin .args .marks .now) (begin .args .variables))
@@ -38,22 +35,29 @@ add-length c = omega (arith, c .count-marks .ensures, premises-most (begin c .ar
 returns : tie.Need-returns
 returns c = let d = c .before in record { counted = counted d; short = omega (arith, counted d, c .if1 .taken); kept = refl }
 
--- it is written
-module _ (c : tie.After-write-clause) where
-  abbrev asked : tie.After-count-marks
-  asked = c .before .before .before .before .before
+write-marks-requires : tie.Need-write-marks-requires
+write-marks-requires c κs =
+    let w = c .before .before in
+    let d = w .before .before .before .before in
+    (begin d .pre .0, omega (arith, d .count-marks .ensures, w .before .before .before .if1 .left, w .write-mark .ensures .ends, w .write-mark .kept .1 .1 .1 .1 .0))
 
-  given : Given (clause asked) (begin asked .args .out .now) (c .write-clause .last .1 .1 .1 .1 .0) (asked .count-marks .result + 1)
+-- it is written
+module _ (c : tie.After-write-marks) where
+  abbrev asked : tie.After-count-marks
+  asked = c .before .before .before .before .before .before .before
+
+  given : Given (clause asked) (begin asked .args .out .now) (c .write-marks .last .1 .1 .1 .1 .0) (asked .count-marks .result + 1)
   given =
-      let f : SFits w16 (c .before .before .literal-of .result) = search needs in
+      let w = c .before .before .before in
       record {
         counted = counted asked;
-        fits = omega (arith, counted asked, c .before .before .before .before .if1 .left);
-        wrote = subst (λ x. Wrote (clauseFrom asked x) (begin asked .args .out .now) (c .write-clause .last .1 .1 .1 .1 .0)) (toZ-ofZ f ∙ c .before .before .literal-of .ensures ∙ ap (literalOf (begin asked .args .holds)) (c .before .before .before .wide .ensures)) (c .write-clause .ensures);
+        fits = omega (arith, counted asked, w .before .before .before .if1 .left);
+        wrote = subst (λ v. Wrote (clauseFrom asked v) (begin asked .args .out .now) (c .write-marks .last .1 .1 .1 .1 .0)) (w .before .before .wide .ensures)
+            (appends-then (w .write-mark .ensures) (c .write-marks .ensures) .wrote [] (begin asked .args .out .now) refl refl);
       }
 
 pub write-answer-spec : {M : Type 1} → statement M
 write-answer-spec =
     tie.close
-    (tie.spec (λ c κs. search needs) add-length returns (λ c κs. search needs) (λ c κs. search needs) (λ c κs. search needs) (λ c. search needs)
+    (tie.spec (λ c κs. search needs) add-length returns (λ c κs. search needs) (λ c κs. search needs) write-marks-requires (λ c. search needs)
     (λ c. (c .if2 .taken, given (c .before .before))) (λ c. search needs) (λ c. (c .if2 .left, given (c .before .before))))
