@@ -2,4 +2,3 @@ pub mod Paths
 pub mod Cuts
 pub mod Listing
 pub mod Answering
-pub mod Unique

@@ -3,11 +3,12 @@
 use mathlib.Core.Path.{_≡_}
 use mathlib.Core.Logic.{_⊎_}
 use mathlib.Core.Bool.{Bool, true, false}
-use mathlib.Core.List.{List, _++_}
+use mathlib.Core.List.{List}
 use Prim.Native.Nat.{ℕ, _≤_, _<_}
-use lib.ListN.{length, drop}
+use lib.ListN.{length}
 use lib.IntN.{ℤ}
 use Rattle.plan.specs.Meaning.{Edge, Atom, PlanFile}
+use Rattle.plan.specs.Buffers.{Kept, Wrote}
 use Rattle.plan.specs.Reason.{holds, fails, neither, ReasonIs}
 use Rattle.plan.specs.Search.{Assigned}
 use Rattle.plan.specs.Tables.{Lent}
@@ -15,39 +16,38 @@ use Rattle.plan.specs.declared.Plan.{Plan}
 use Rattle.reason.specs.declared.Answer.{Answer}
 use Rattle.reason.specs.declared.Answer.the-variants.{Holds, Fails, Open, Short}
 
--- The clause, of which R is said and which has n literals, stands in the buffer's first places; the rest is as it was.
-pub record Given (R : List ℤ → Type 0) (n : ℕ) (before after : List ℤ) : Type 0 where
-  pub clause : List ℤ
-  pub is : R clause
-  pub many : n ≡ length clause
-  pub room : n ≤ length before
-  pub out : after ≡ clause ++ drop n before
+-- The clause is written, and its length answered.
+pub record Given (clause before after : List ℤ) (n : ℕ) : Type 0 where
+  pub counted : n ≡ length clause
+  pub fits : length clause ≤ length before
+  pub wrote : Wrote clause before after
 
--- The clause needs n places, which is more than there are; the buffer is as it was.
-pub record TooShort (R : List ℤ → Type 0) (n : ℕ) (before after : List ℤ) : Type 0 where
-  pub clause : List ℤ
-  pub is : R clause
-  pub many : n ≡ length clause
-  pub short : length before < n
-  pub same : after ≡ before
+-- The clause has more literals than there are places: nothing is written, and its length answered.
+pub record TooLong (clause before after : List ℤ) (n : ℕ) : Type 0 where
+  pub counted : n ≡ length clause
+  pub short : length before < length clause
+  pub kept : Kept before after
 
 -- What each case of the code's answer says.
 abbrev pub AnswerIs : PlanFile → List ℤ → Atom → Answer → List ℤ → List ℤ → Type 0
-AnswerIs φ a A (Holds n) before after = Given (λ r. ReasonIs φ a A (holds r)) n before after
-AnswerIs φ a A (Fails n) before after = Given (λ r. ReasonIs φ a A (fails r)) n before after
-AnswerIs φ a A Open before after = ReasonIs φ a A neither × (after ≡ before)
-AnswerIs φ a A (Short n) before after = TooShort (λ r. ReasonIs φ a A (holds r) ⊎ ReasonIs φ a A (fails r)) n before after
+AnswerIs φ a A (Holds n) before after = (r : List ℤ) × ReasonIs φ a A (holds r) × Given r before after n
+AnswerIs φ a A (Fails n) before after = (r : List ℤ) × ReasonIs φ a A (fails r) × Given r before after n
+AnswerIs φ a A Open before after = ReasonIs φ a A neither × Kept before after
+AnswerIs φ a A (Short n) before after = (r : List ℤ) × (ReasonIs φ a A (holds r) ⊎ ReasonIs φ a A (fails r)) × TooLong r before after n
 
 -- What is said of every plan file with these edges.
+abbrev pub withEdges : List Edge → PlanFile → PlanFile
+withEdges es φ = record { nodes = φ .nodes; variables = φ .variables; edges = es; atoms = φ .atoms; clauses = φ .clauses }
+
 abbrev pub Over : List Edge → (PlanFile → Type 0) → Type 0
-Over es P = (φ : PlanFile) → φ .edges ≡ es → P φ
+Over es P = (φ : PlanFile) → P (withEdges es φ)
 
 -- The clause C is the answer's, for "holds" at true and for "fails" at false.
-abbrev pub Wrote : Bool → List ℤ → Answer → List ℤ → List ℤ → Type 0
-Wrote s C (Holds n) before after = (s ≡ true) × Given (λ r. r ≡ C) n before after
-Wrote s C (Fails n) before after = (s ≡ false) × Given (λ r. r ≡ C) n before after
-Wrote s C Open before after = ⊥
-Wrote s C (Short n) before after = TooShort (λ r. r ≡ C) n before after
+abbrev pub Answers : Bool → List ℤ → Answer → List ℤ → List ℤ → Type 0
+Answers b C (Holds n) before after = (b ≡ true) × Given C before after n
+Answers b C (Fails n) before after = (b ≡ false) × Given C before after n
+Answers b C Open before after = ⊥
+Answers b C (Short n) before after = TooLong C before after n
 
 -- What is asked: the tables are those of a plan file that was read, the assignment is one of its variables, and the atom, numbered from 0,
 -- is one of its atoms.

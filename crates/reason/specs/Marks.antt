@@ -3,81 +3,104 @@
 use mathlib.Core.Path.{_≡_}
 use mathlib.Core.Logic.{_↔_, _⊎_}
 use mathlib.Core.Bool.{Bool, true, false}
-use mathlib.Core.List.{List, [], _∷_, _++_, List·Memᴰ}
-use Prim.Native.Nat.{ℕ, suc, _<_}
-use lib.ListN.{length, getD, take, drop}
+use mathlib.Core.List.{List, [], _∷_, _++_, map, List·Memᴰ}
+use Prim.Native.Nat.{ℕ, zero, suc, _+_, _≤_, _<_}
+use lib.ListN.{length, getD}
 use lib.IntN.{ℤ}
 use lib.Dec.{T}
-use Rattle.plan.specs.Meaning.{Edge, Atom, edge, off, trueIn, under, over}
-use Rattle.plan.specs.Tables.{literalOf}
-use Rattle.plan.specs.Meaning as meaning
-use Rattle.plan.specs.Reason.{Smallest, Nearer, Back, Across}
-use Rattle.walk.specs.Hopping.{HopTable}
-use Rattle.walk.specs.declared.Hops.{Hops}
+use Rattle.plan.specs.Meaning.{Edge, Atom, Graph, PlanFile, edge, Distance, costOf, graphOf, literalOf, off, trueIn}
+use Rattle.plan.specs.Buffers.{Wrote}
+use Rattle.plan.specs.Closing.{settling}
+use Rattle.plan.specs.Ranged.{maxNodes, maxVariables, EndsFit}
+use Rattle.plan.specs.Reason.{Smallest, Nearer, Back, Across, Cut}
+use Rattle.walk.specs.Hopping.{Inside, Placed, Settling}
+use Rattle.reason.specs.Answers.{Over}
+
+-- What is asked of the edges and of the assignment: ends and variables in range, and no more variables than a plan file has.
+pub record Fits (es : List Edge) (a : List ℤ) : Type 0 where
+  pub inside : Inside es
+  pub placed : Placed es (length a)
+  pub few : length a ≤ maxVariables
+
+-- And with them the distances by which the atom holds (true) or fails (false).
+pub record Told (es : List Edge) (a : List ℤ) (A : Atom) (b : Bool) (d : List ℕ) : Type 0 where
+  pub fits : Fits es a
+  pub table : Settling es a A b d
+
+abbrev pub EdgeFits : List ℤ → Edge → Type 0
+EdgeFits a e = EndsFit maxNodes (length a) (e .from) (e .to) (e .variable)
 
 -- The marks m′ are the marks m and those of the variables with the property P; the mark of variable v stands at place v - 1.
 pub record MarksAlso (P : ℕ → Type 0) (m m′ : List Bool) : Type 0 where
   pub long : length m′ ≡ length m
   pub exact : (i : ℕ) → T (getD m′ i false) ↔ (T (getD m i false) ⊎ P (suc i))
 
--- An on-edge leads to the node from one that is so many hops from the source.
-abbrev pub LeadsNearer : List ℤ → Edge → Hops → ℕ → ℕ → Bool → Type 0
-LeadsNearer a e h node k r = (es : List Edge) (s : ℕ) → HopTable es (under (trueIn a)) s h
-    → T r ↔ (T (under (trueIn a) e) × (e .to ≡ node) × meaning.Hops es (under (trueIn a)) s (e .from) k)
+-- ---- the path
 
--- The node is so many hops from the source of the table.
-abbrev pub Distant : List Edge → List ℤ → Hops → ℕ → ℕ → Type 0
-Distant es a h node k = (s : ℕ) × HopTable es (under (trueIn a)) s h × meaning.Hops es (under (trueIn a)) s node k
+-- The graph by which an atom holds, and how far a node is in it from the atom's source.
+abbrev pub holding : List ℤ → Atom → Graph
+holding a A = graphOf (settling (A .kind) true) (trueIn a)
 
--- The edge is the smallest-numbered one that leads to the node from one that is k hops from the source.
-abbrev pub FirstNearer : List Edge → List ℤ → Hops → ℕ → ℕ → Edge → Type 0
-FirstNearer es a h node k e = (s : ℕ) → HopTable es (under (trueIn a)) s h
-    → (j : ℕ) × Smallest (Nearer es (under (trueIn a)) s node k) j × (e ≡ edge es j)
+abbrev pub Away : List Edge → List ℤ → Atom → ℕ → ℕ → Type 0
+Away es a A node k = Distance (costOf (A .kind)) es (holding a A) (A .from) node k
 
--- The variables of the path to the node are marked too.
-pub record PathMarked (es : List Edge) (a : List ℤ) (s node k : ℕ) (m m′ : List Bool) : Type 0 where
+-- An edge of that graph leads to the node, which is k away, and a cheapest walk ends with it: `Nearer` of an edge that is known without its number.
+pub record Leads (es : List Edge) (a : List ℤ) (A : Atom) (node k : ℕ) (e : Edge) : Type 0 where
+  pub present : T (holding a A e)
+  pub ends : e .to ≡ node
+  pub before : ℕ
+  pub near : Away es a A (e .from) before
+  pub sum : k ≡ before + costOf (A .kind) e
+
+abbrev pub LeadsNearer : List ℤ → Atom → Edge → List ℕ → ℕ → ℕ → Bool → Type 0
+LeadsNearer a A e d node k r = (es : List Edge) → Settling es a A true d → T r ↔ Leads es a A node k e
+
+-- The edge is the smallest-numbered one with which a cheapest walk to the node ends.
+abbrev pub FirstNearer : List Edge → List ℤ → Atom → ℕ → ℕ → Edge → Type 0
+FirstNearer es a A node k e = (j : ℕ) × Smallest (Nearer (costOf (A .kind)) es (holding a A) (A .from) node k) j × (e ≡ edge es j)
+
+-- The variables of the path to the node, which is k away, are marked too.
+pub record PathMarked (es : List Edge) (a : List ℤ) (A : Atom) (node k : ℕ) (m m′ : List Bool) : Type 0 where
   pub path : List ℕ
-  pub back : Back es (under (trueIn a)) s node k path
+  pub back : Back (costOf (A .kind)) es (holding a A) (A .from) node k path
   pub marks : MarksAlso (λ v. List·Memᴰ v path) m m′
 
-abbrev pub MarksPath : List Edge → List ℤ → Hops → ℕ → ℕ → List Bool → List Bool → Type 0
-MarksPath es a h node k m m′ = (s : ℕ) → HopTable es (under (trueIn a)) s h → PathMarked es a s node k m m′
+-- ---- the cut
 
 -- An off edge leads across.
-abbrev pub Crosses : List ℤ → Atom → Edge → Hops → Bool → Type 0
-Crosses a A e h r = (es : List Edge) → HopTable es (over (trueIn a)) (A .from) h
-    → T r ↔ (T (trueIn a (off (e .variable))) × Across (A .kind) es (over (trueIn a)) (A .bound) (A .from) e)
+abbrev pub Crossing : List Edge → List ℤ → Atom → Edge → Type 0
+Crossing es a A e = T (trueIn a (off (e .variable))) × Across (A .kind) es (graphOf (settling (A .kind) false) (trueIn a)) (A .bound) (A .from) e
 
--- The variable v is that of an off edge, numbered below n, that leads across.
-pub record CutBelow (n : ℕ) (es : List Edge) (a : List ℤ) (A : Atom) (v : ℕ) : Type 0 where
-  pub number : ℕ
-  pub listed : number < length es
-  pub below : number < n
-  pub its : edge es number .variable ≡ v
-  pub isOff : T (trueIn a (off v))
-  pub across : Across (A .kind) es (over (trueIn a)) (A .bound) (A .from) (edge es number)
+abbrev pub Crosses : List ℤ → Atom → Edge → List ℕ → Bool → Type 0
+Crosses a A e d r = (es : List Edge) → Settling es a A false d → T r ↔ Crossing es a A e
 
-abbrev pub MarksCut : ℕ → List Edge → List ℤ → Atom → Hops → List Bool → Type 0
-MarksCut n es a A h m = HopTable es (over (trueIn a)) (A .from) h → (i : ℕ) → T (getD m i false) ↔ CutBelow n es a A (suc i)
+-- The variable is in the cut, by the edge numbered n or by one numbered below n.
+abbrev pub CutAt : ℕ → PlanFile → List ℤ → Atom → ℕ → Type 0
+CutAt n φ a A v = (c : Cut φ a A v) × (c .number ≡ n)
 
--- The marked variables, rising; the first mark is that of variable b + 1.
-unfoldable pub markedFrom : ℕ → List Bool → List ℕ
-markedFrom b [] = []
-markedFrom b (true ∷ m) = suc b ∷ markedFrom (suc b) m
-markedFrom b (false ∷ m) = markedFrom (suc b) m
+abbrev pub CutBelow : ℕ → PlanFile → List ℤ → Atom → ℕ → Type 0
+CutBelow n φ a A v = (c : Cut φ a A v) × (c .number < n)
 
-abbrev pub premises : List Bool → ℕ → List ℕ
-premises m n = markedFrom 0 (take n m)
+abbrev pub MarksCut : List Edge → List ℤ → Atom → List Bool → Type 0
+MarksCut es a A m = Over es (λ φ. (i : ℕ) → T (getD m i false) ↔ Cut φ a A (suc i))
 
--- What one mark adds to the clause.
-abbrev pub piece : Bool → Bool → ℕ → List ℤ
-piece true sign v = literalOf sign v ∷ []
-piece false sign v = []
+-- ---- the clause
 
--- The list w stands in the first places of a buffer, and the rest is as it was.
-abbrev pub Starts : List ℤ → List ℤ → List ℤ → Type 0
-Starts w before after = after ≡ w ++ drop (length w) before
+-- What one mark adds to the marked variables.
+abbrev pub piece : Bool → ℕ → List ℕ
+piece true v = v ∷ []
+piece false v = []
 
--- A buffer that starts with any w goes on with the piece.
-abbrev pub Appends : ℕ → List ℤ → List ℤ → List ℤ → ℕ → Type 0
-Appends at p out out′ r = (w before : List ℤ) → at ≡ length w → Starts w before out → Starts (w ++ p) before out′ × (r ≡ length (w ++ p))
+-- The marked variables up to n, rising.
+unfoldable pub premises : List Bool → ℕ → List ℕ
+premises m zero = []
+premises m (suc n) = premises m n ++ piece (getD m n false) (suc n)
+
+-- A clause: the literal of a variable, and those of the marked ones with the other sign.
+abbrev pub clauseOf : ℤ → Bool → List Bool → ℕ → List ℤ
+clauseOf x sign m n = x ∷ map (literalOf sign) (premises m n)
+
+-- The literals p are put into a buffer from the place `at` on: whatever w it starts with, it then starts with w and p.
+pub record Appends (at : ℕ) (p out out′ : List ℤ) (end : ℕ) : Type 0 where
+  pub ends : end ≡ at + length p
+  pub wrote : (w before : List ℤ) → at ≡ length w → Wrote w before out → Wrote (w ++ p) before out′

@@ -1,17 +1,26 @@
+// The reason of an atom: the path by which it holds, or the cut by which it fails, as marks on variables and then as a clause.
+use plan::Assignment;
 use plan::Atom;
 use plan::Edge;
+use plan::Kind;
+use plan::Side;
 use plan::State;
-use walk::Hops;
+use walk::Distances;
 ghost use mathlib.Core.Path.{_≡_};
-ghost use mathlib.Core.Bool.{true, not};
-ghost use mathlib.Core.List.{_∷_, map};
-ghost use Prim.Native.Nat.{suc, _+_, _*_, _<_, _≤_};
+ghost use mathlib.Core.Bool.{true, false, not};
+ghost use mathlib.Core.List.{map};
+ghost use mathlib.Core.Logic.{_↔_};
+ghost use Prim.Native.Nat.{_+_, _*_, _<_, _≤_};
+ghost use lib.Dec.{T};
 ghost use lib.ListN.{length};
-ghost use Rattle.plan.specs.Meaning.{atom, IsTrue, trueIn, under, over};
-ghost use Rattle.plan.specs.Tables.{edgesOf, atomsOf, edgeOf, atomOf, literalOf};
-ghost use Rattle.walk.specs.Hopping.{graphOf, Inside, Placed, HopTable};
-ghost use Rattle.reason.specs.Answers.{AnswerIs, Over, Wrote, Asked};
-ghost use Rattle.reason.specs.Marks.{LeadsNearer, Distant, FirstNearer, MarksPath, Crosses, MarksCut, premises, piece, Starts, Appends};
+ghost use Rattle.plan.specs.Closing.{Settles};
+ghost use Rattle.plan.specs.Meaning.{atom, literalOf, trueIn};
+ghost use Rattle.plan.specs.Ranged.{maxNodes, maxVariables};
+ghost use Rattle.plan.specs.Reason.{LeavesAt, EndsBeyond};
+ghost use Rattle.plan.specs.Tables.{edgesOf, atomsOf, edgeOf, atomOf};
+ghost use Rattle.walk.specs.Hopping.{Settling};
+ghost use Rattle.reason.specs.Answers.{AnswerIs, Over, Answers, Asked};
+ghost use Rattle.reason.specs.Marks.{Fits, Told, EdgeFits, Away, LeadsNearer, FirstNearer, PathMarked, MarksAlso, Crosses, CutAt, MarksCut, premises, piece, clauseOf, Appends};
 
 // What is answered: the atom holds or fails, with the number of literals written; or it is open; or the clause needs more room than there is, and how much.
 pub enum Answer {
@@ -21,50 +30,74 @@ pub enum Answer {
     Short(usize),
 }
 
-// The hops from a node in the under graph or in the over graph.
-fn hops_from(edges: &[u16], assignment: &[i8], over: bool, source: usize) -> Hops
-    requires { ⌜ Inside (edgesOf (now edges)) ⌝ }
-    requires { ⌜ Placed (edgesOf (now edges)) (length (now assignment)) ⌝ }
-    requires { ⌜ source < 64 ⌝ }
-    ensures { λ r. ⌜ HopTable (edgesOf (now (edges .entry))) (graphOf over (now (assignment .entry))) source r ⌝ }
+// Whether a variable is marked: that of variable v stands at place v - 1.
+type Marks = [bool; Assignment::MAX];
+
+// The distances from the atom's source in the graph by which it would hold, or in that by which it would fail.
+fn distances_by(edges: &[u16], assignment: &[i8], atom: Atom, holds: bool) -> Distances
+    requires { ⌜ Fits (edgesOf (now edges)) (now assignment) ⌝ }
+    requires { ⌜ atom .from < maxNodes ⌝ }
+    ensures { λ r. ⌜ Settling (edgesOf (now (edges .entry))) (now (assignment .entry)) (atomOf atom) holds r ⌝ }
 {
-    let neighbours = walk::neighbours(edges, assignment, over);
-    walk::walk(&neighbours, source)
+    let neighbours = walk::neighbours(edges, assignment, plan::settling_side(holds));
+    walk::walk(&neighbours, plan::wide(atom.from))
 }
 
-// Whether an edge is on and leads to `node` from a node that is `count` hops from the source.
-fn leads_nearer(assignment: &[i8], edge: Edge, hops: Hops, node: usize, count: u8) -> bool
-    requires { ⌜ edge .from < 64 ⌝ }
-    requires { ⌜ 1 ≤ edge .variable ⌝ }
-    requires { ⌜ edge .variable ≤ length (now assignment) ⌝ }
-    ensures { λ r. ⌜ LeadsNearer (now (assignment .entry)) (edgeOf edge) hops node count r ⌝ }
+fn mark(variable: u16, marks: &mut Marks)
+    requires { ⌜ 1 ≤ variable ⌝ }
+    requires { ⌜ variable ≤ maxVariables ⌝ }
+    requires { ⌜ length (now marks) ≡ maxVariables ⌝ }
+    ensures { λ _. ⌜ MarksAlso (λ v. v ≡ variable) (now (marks .entry)) (now (marks .exit)) ⌝ }
+{
+    let at = plan::wide(variable) - 1;
+    marks[at] = true;
+}
+
+// Whether an edge leads to `node`, which is `count` away, from a node that is one hop nearer.
+fn leads_nearer(
+    assignment: &[i8],
+    atom: Atom,
+    edge: Edge,
+    distances: &Distances,
+    node: usize,
+    count: u64,
+) -> bool
+    requires { ⌜ EdgeFits (now assignment) (edgeOf edge) ⌝ }
+    requires { ⌜ 1 ≤ count ⌝ }
+    ensures { λ r. ⌜ LeadsNearer (now (assignment .entry)) (atomOf atom) (edgeOf edge) (now (distances .entry)) node count r ⌝ }
 {
     if plan::wide(edge.to) != node {
         return false;
     }
-    if !walk::is_present(assignment, edge, false) {
+    if !walk::is_present(assignment, edge, plan::settling_side(true)) {
         return false;
     }
     let from = plan::wide(edge.from);
-    if !walk::has(hops.reached, from) {
+    if !walk::is_reached(distances, from) {
         return false;
     }
-    let number = hops.counts[from];
-    number == count
+    walk::distance(distances, from) == count - 1
 }
 
-// The smallest-numbered on-edge that leads to `node` from a node that is `count` hops from the source.
-fn nearer_edge(edges: &[u16], assignment: &[i8], hops: Hops, node: usize, count: u8) -> Edge
-    requires { ⌜ Inside (edgesOf (now edges)) ⌝ }
-    requires { ⌜ Placed (edgesOf (now edges)) (length (now assignment)) ⌝ }
-    requires { ⌜ Distant (edgesOf (now edges)) (now assignment) hops node (suc count) ⌝ }
-    ensures { λ r. ⌜ FirstNearer (edgesOf (now (edges .entry))) (now (assignment .entry)) hops node count (edgeOf r) ⌝ }
+// The smallest-numbered edge that leads to `node`, which is `count` away, from a node that is one hop nearer.
+fn nearer_edge(
+    edges: &[u16],
+    assignment: &[i8],
+    atom: Atom,
+    distances: &Distances,
+    node: usize,
+    count: u64,
+) -> Edge
+    requires { ⌜ Told (edgesOf (now edges)) (now assignment) (atomOf atom) true (now distances) ⌝ }
+    requires { ⌜ Away (edgesOf (now edges)) (now assignment) (atomOf atom) node count ⌝ }
+    requires { ⌜ 1 ≤ count ⌝ }
+    ensures { λ r. ⌜ FirstNearer (edgesOf (now (edges .entry))) (now (assignment .entry)) (atomOf atom) node count (edgeOf r) ⌝ }
 {
     let total = edges.len() / Edge::NUMBERS;
     let mut number = 0;
     while number < total {
         let edge = plan::edge_at(edges, number);
-        if leads_nearer(assignment, edge, hops, node, count) {
+        if leads_nearer(assignment, atom, edge, distances, node, count) {
             return edge;
         }
         number += 1;
@@ -80,60 +113,73 @@ fn nearer_edge(edges: &[u16], assignment: &[i8], hops: Hops, node: usize, count:
 fn mark_path(
     edges: &[u16],
     assignment: &[i8],
-    hops: Hops,
+    atom: Atom,
+    distances: &Distances,
     node: usize,
-    count: u8,
-    marks: &mut [bool; 512],
+    count: u64,
+    marks: &mut Marks,
 )
-    requires { ⌜ Inside (edgesOf (now edges)) ⌝ }
-    requires { ⌜ Placed (edgesOf (now edges)) (length (now assignment)) ⌝ }
-    requires { ⌜ length (now assignment) ≤ 512 ⌝ }
-    requires { ⌜ Distant (edgesOf (now edges)) (now assignment) hops node count ⌝ }
-    requires { ⌜ length (now marks) ≡ 512 ⌝ }
-    ensures { λ _. ⌜ MarksPath (edgesOf (now (edges .entry))) (now (assignment .entry)) hops node count (now (marks .entry)) (now (marks .exit)) ⌝ }
+    requires { ⌜ Told (edgesOf (now edges)) (now assignment) (atomOf atom) true (now distances) ⌝ }
+    requires { ⌜ Away (edgesOf (now edges)) (now assignment) (atomOf atom) node count ⌝ }
+    requires { ⌜ length (now marks) ≡ maxVariables ⌝ }
+    ensures { λ _. ⌜ PathMarked (edgesOf (now (edges .entry))) (now (assignment .entry)) (atomOf atom) node count (now (marks .entry)) (now (marks .exit)) ⌝ }
 {
     if count == 0 {
         return;
     }
-    let edge = nearer_edge(edges, assignment, hops, node, count - 1);
-    let at = plan::wide(edge.variable) - 1;
-    marks[at] = true;
+    let edge = nearer_edge(edges, assignment, atom, distances, node, count);
+    mark(edge.variable, marks);
     let from = plan::wide(edge.from);
-    mark_path(edges, assignment, hops, from, count - 1, marks);
+    mark_path(edges, assignment, atom, distances, from, count - 1, marks);
 }
 
-// Whether an edge is off and leads across, out of what the over graph reaches: for a bound, out of what it reaches in time.
-fn crosses(assignment: &[i8], atom: Atom, edge: Edge, hops: Hops) -> bool
-    requires { ⌜ edge .from < 64 ⌝ }
-    requires { ⌜ edge .to < 64 ⌝ }
-    requires { ⌜ 1 ≤ edge .variable ⌝ }
-    requires { ⌜ edge .variable ≤ length (now assignment) ⌝ }
-    ensures { λ r. ⌜ Crosses (now (assignment .entry)) (atomOf atom) (edgeOf edge) hops r ⌝ }
+// Whether an edge that starts at this distance is left in time.
+fn leaves_at(kind: Kind, bound: u16, near: u64) -> bool
+    ensures { λ r. ⌜ (T r ↔ LeavesAt kind bound near) ⌝ }
 {
-    if walk::is_present(assignment, edge, true) {
+    match kind {
+        Kind::Reaches => true,
+        Kind::Within => near < (bound as u64),
+    }
+}
+
+// Whether a node at the distance `far` is beyond an edge that starts at the distance `near` and costs so much.
+fn ends_beyond(kind: Kind, near: u64, cost: u64, far: u64) -> bool
+    ensures { λ r. ⌜ (T r ↔ EndsBeyond kind (near + cost) far) ⌝ }
+{
+    match kind {
+        Kind::Reaches => false,
+        Kind::Within => {
+            if far <= near {
+                return false;
+            }
+            far - near > cost
+        }
+    }
+}
+
+// Whether an edge is off and leads across, by the distances in the graph by which the atom fails.
+fn crosses(assignment: &[i8], atom: Atom, edge: Edge, distances: &Distances) -> bool
+    requires { ⌜ EdgeFits (now assignment) (edgeOf edge) ⌝ }
+    ensures { λ r. ⌜ Crosses (now (assignment .entry)) (atomOf atom) (edgeOf edge) (now (distances .entry)) r ⌝ }
+{
+    if walk::is_present(assignment, edge, Side::Over) {
         return false;
     }
     let from = plan::wide(edge.from);
-    if !walk::has(hops.reached, from) {
+    if !walk::is_reached(distances, from) {
+        return false;
+    }
+    let near = walk::distance(distances, from);
+    let kind = atom.kind;
+    if !leaves_at(kind, atom.bound, near) {
         return false;
     }
     let to = plan::wide(edge.to);
-    let reached = walk::has(hops.reached, to);
-    let kind = atom.kind;
-    if kind == 1 {
-        return !reached;
-    }
-    if kind != 2 {
-        return false;
-    }
-    let near = walk::widened(hops.counts[from]);
-    if atom.bound <= near {
-        return false;
-    }
-    if !reached {
+    if !walk::is_reached(distances, to) {
         return true;
     }
-    near + 1 < walk::widened(hops.counts[to])
+    ends_beyond(kind, near, 1, walk::distance(distances, to))
 }
 
 // Marks the variable of the edge numbered `k`, from 0, where it is off and leads across.
@@ -141,46 +187,38 @@ fn mark_edge(
     edges: &[u16],
     assignment: &[i8],
     atom: Atom,
-    hops: Hops,
+    distances: &Distances,
     k: usize,
-    marks: &mut [bool; 512],
+    marks: &mut Marks,
 )
-    requires { ⌜ Inside (edgesOf (now edges)) ⌝ }
-    requires { ⌜ Placed (edgesOf (now edges)) (length (now assignment)) ⌝ }
-    requires { ⌜ length (now assignment) ≤ 512 ⌝ }
+    requires { ⌜ Told (edgesOf (now edges)) (now assignment) (atomOf atom) false (now distances) ⌝ }
     requires { ⌜ k * 3 + 2 < length (now edges) ⌝ }
-    requires { ⌜ length (now marks) ≡ 512 ⌝ }
-    requires { ⌜ MarksCut k (edgesOf (now edges)) (now assignment) (atomOf atom) hops (now marks) ⌝ }
-    ensures { λ _. ⌜ length (now (marks .exit)) ≡ 512 ⌝ }
-    ensures { λ _. ⌜ MarksCut (suc k) (edgesOf (now (edges .entry))) (now (assignment .entry)) (atomOf atom) hops (now (marks .exit)) ⌝ }
+    requires { ⌜ length (now marks) ≡ maxVariables ⌝ }
+    ensures { λ _. ⌜ Over (edgesOf (now (edges .entry))) (λ φ. MarksAlso (CutAt k φ (now (assignment .entry)) (atomOf atom)) (now (marks .entry)) (now (marks .exit))) ⌝ }
 {
     let edge = plan::edge_at(edges, k);
-    if !crosses(assignment, atom, edge, hops) {
-        return;
+    if crosses(assignment, atom, edge, distances) {
+        mark(edge.variable, marks);
     }
-    let at = plan::wide(edge.variable) - 1;
-    marks[at] = true;
 }
 
 // Marks the variables of the off edges that lead across.
-fn mark_cut(edges: &[u16], assignment: &[i8], atom: Atom, hops: Hops) -> [bool; 512]
-    requires { ⌜ Inside (edgesOf (now edges)) ⌝ }
-    requires { ⌜ Placed (edgesOf (now edges)) (length (now assignment)) ⌝ }
-    requires { ⌜ length (now assignment) ≤ 512 ⌝ }
-    ensures { λ r. ⌜ MarksCut (length (edgesOf (now (edges .entry)))) (edgesOf (now (edges .entry))) (now (assignment .entry)) (atomOf atom) hops r ⌝ }
+fn mark_cut(edges: &[u16], assignment: &[i8], atom: Atom, distances: &Distances) -> Marks
+    requires { ⌜ Told (edgesOf (now edges)) (now assignment) (atomOf atom) false (now distances) ⌝ }
+    ensures { λ r. ⌜ MarksCut (edgesOf (now (edges .entry))) (now (assignment .entry)) (atomOf atom) r ⌝ }
 {
-    let mut marks = [false; 512];
+    let mut marks = [false; Assignment::MAX];
     let total = edges.len() / Edge::NUMBERS;
     let mut k = 0;
     while k < total {
-        mark_edge(edges, assignment, atom, hops, k, &mut marks);
+        mark_edge(edges, assignment, atom, distances, k, &mut marks);
         k += 1;
     }
     marks
 }
 
 fn one_if(mark: bool) -> usize
-    ensures { λ r. ⌜ r ≡ length (piece mark true 0) ⌝ }
+    ensures { λ r. ⌜ r ≡ length (piece mark 0) ⌝ }
 {
     if mark {
         return 1;
@@ -189,9 +227,8 @@ fn one_if(mark: bool) -> usize
 }
 
 // How many of the first `variables` marks there are.
-fn count_marks(marks: &[bool; 512], variables: usize) -> usize
-    requires { ⌜ length (now marks) ≡ 512 ⌝ }
-    requires { ⌜ variables ≤ 512 ⌝ }
+fn count_marks(marks: &Marks, variables: usize) -> usize
+    requires { ⌜ variables ≤ maxVariables ⌝ }
     ensures { λ r. ⌜ r ≡ length (premises (now (marks .entry)) variables) ⌝ }
 {
     let mut count = 0;
@@ -205,9 +242,9 @@ fn count_marks(marks: &[bool; 512], variables: usize) -> usize
 
 // Writes the literal of a variable at the place `at` where it is marked, and returns the place behind it.
 fn write_mark(mark: bool, variable: usize, sign: bool, at: usize, out: &mut [i16]) -> usize
-    requires { ⌜ variable ≤ 512 ⌝ }
-    requires { ⌜ at + length (piece mark sign variable) ≤ length (now out) ⌝ }
-    ensures { λ r. ⌜ Appends at (piece mark sign variable) (now (out .entry)) (now (out .exit)) r ⌝ }
+    requires { ⌜ variable ≤ maxVariables ⌝ }
+    requires { ⌜ at + length (piece mark variable) ≤ length (now out) ⌝ }
+    ensures { λ r. ⌜ Appends at (map (literalOf sign) (piece mark variable)) (now (out .entry)) (now (out .exit)) r ⌝ }
 {
     if !mark {
         return at;
@@ -216,42 +253,40 @@ fn write_mark(mark: bool, variable: usize, sign: bool, at: usize, out: &mut [i16
     at + 1
 }
 
-// Writes a clause: its first literal, and then those of the marked variables.
-fn write_clause(first: i16, sign: bool, marks: &[bool; 512], variables: usize, out: &mut [i16])
-    requires { ⌜ length (now marks) ≡ 512 ⌝ }
-    requires { ⌜ variables ≤ 512 ⌝ }
-    requires { ⌜ suc (length (premises (now marks) variables)) ≤ length (now out) ⌝ }
-    ensures { λ _. ⌜ Starts (first ∷ map (literalOf sign) (premises (now (marks .entry)) variables)) (now (out .entry)) (now (out .exit)) ⌝ }
+// Writes the literals of the marked variables from the place `at` on, and returns the place behind them.
+fn write_marks(sign: bool, marks: &Marks, variables: usize, at: usize, out: &mut [i16]) -> usize
+    requires { ⌜ variables ≤ maxVariables ⌝ }
+    requires { ⌜ at + length (premises (now marks) variables) ≤ length (now out) ⌝ }
+    ensures { λ r. ⌜ Appends at (map (literalOf sign) (premises (now (marks .entry)) variables)) (now (out .entry)) (now (out .exit)) r ⌝ }
 {
-    out[0] = first;
-    let mut at = 1;
+    let mut end = at;
     let mut v = 0;
     while v < variables {
-        at = write_mark(marks[v], v + 1, sign, at, out);
+        end = write_mark(marks[v], v + 1, sign, end, out);
         v += 1;
     }
+    end
 }
 
 // Answers with the clause of a variable and the marked ones, where there is room for it: the variable's own literal is on where `holds`,
 // and the others are then off.
 fn write_answer(
     holds: bool,
-    variable: usize,
-    marks: &[bool; 512],
+    variable: u16,
+    marks: &Marks,
     variables: usize,
     out: &mut [i16],
 ) -> Answer
-    requires { ⌜ length (now marks) ≡ 512 ⌝ }
-    requires { ⌜ variables ≤ 512 ⌝ }
-    requires { ⌜ variable ≤ 512 ⌝ }
-    ensures { λ r. ⌜ Wrote holds (literalOf holds variable ∷ map (literalOf (not holds)) (premises (now (marks .entry)) variables)) r (now (out .entry)) (now (out .exit)) ⌝ }
+    requires { ⌜ variables ≤ maxVariables ⌝ }
+    requires { ⌜ variable ≤ maxVariables ⌝ }
+    ensures { λ r. ⌜ Answers holds (clauseOf (literalOf holds variable) (not holds) (now (marks .entry)) variables) r (now (out .entry)) (now (out .exit)) ⌝ }
 {
     let length = count_marks(marks, variables) + 1;
     if out.len() < length {
         return Answer::Short(length);
     }
-    let first = plan::literal_of(variable, holds);
-    write_clause(first, !holds, marks, variables, out);
+    let at = write_mark(true, plan::wide(variable), holds, 0, out);
+    write_marks(!holds, marks, variables, at, out);
     if holds {
         return Answer::Holds(length);
     }
@@ -259,37 +294,41 @@ fn write_answer(
 }
 
 // The reason of an atom that holds: the path to its target.
-fn reason_holds(edges: &[u16], assignment: &[i8], atom: Atom, hops: Hops, out: &mut [i16]) -> Answer
-    requires { ⌜ Inside (edgesOf (now edges)) ⌝ }
-    requires { ⌜ Placed (edgesOf (now edges)) (length (now assignment)) ⌝ }
-    requires { ⌜ length (now assignment) ≤ 512 ⌝ }
-    requires { ⌜ atom .to < 64 ⌝ }
-    requires { ⌜ atom .variable ≤ 512 ⌝ }
-    requires { ⌜ HopTable (edgesOf (now edges)) (under (trueIn (now assignment))) (atom .from) hops ⌝ }
-    requires { ⌜ IsTrue (edgesOf (now edges)) (under (trueIn (now assignment))) (atomOf atom) ⌝ }
+fn reason_holds(
+    edges: &[u16],
+    assignment: &[i8],
+    atom: Atom,
+    distances: &Distances,
+    out: &mut [i16],
+) -> Answer
+    requires { ⌜ Told (edgesOf (now edges)) (now assignment) (atomOf atom) true (now distances) ⌝ }
+    requires { ⌜ atom .to < maxNodes ⌝ }
+    requires { ⌜ atom .variable ≤ maxVariables ⌝ }
+    requires { ⌜ Over (edgesOf (now edges)) (λ φ. Settles φ (trueIn (now assignment)) (atomOf atom) true) ⌝ }
     ensures { λ r. ⌜ Over (edgesOf (now (edges .entry))) (λ φ. AnswerIs φ (now (assignment .entry)) (atomOf atom) r (now (out .entry)) (now (out .exit))) ⌝ }
 {
-    let mut marks = [false; 512];
+    let mut marks = [false; Assignment::MAX];
     let to = plan::wide(atom.to);
-    let count = hops.counts[to];
-    mark_path(edges, assignment, hops, to, count, &mut marks);
-    let variable = plan::wide(atom.variable);
-    write_answer(true, variable, &marks, assignment.len(), out)
+    let count = walk::distance(distances, to);
+    mark_path(edges, assignment, atom, distances, to, count, &mut marks);
+    write_answer(true, atom.variable, &marks, assignment.len(), out)
 }
 
 // The reason of an atom that fails: the cut.
-fn reason_fails(edges: &[u16], assignment: &[i8], atom: Atom, hops: Hops, out: &mut [i16]) -> Answer
-    requires { ⌜ Inside (edgesOf (now edges)) ⌝ }
-    requires { ⌜ Placed (edgesOf (now edges)) (length (now assignment)) ⌝ }
-    requires { ⌜ length (now assignment) ≤ 512 ⌝ }
-    requires { ⌜ atom .variable ≤ 512 ⌝ }
-    requires { ⌜ HopTable (edgesOf (now edges)) (over (trueIn (now assignment))) (atom .from) hops ⌝ }
-    requires { ⌜ (IsTrue (edgesOf (now edges)) (over (trueIn (now assignment))) (atomOf atom) → ⊥) ⌝ }
+fn reason_fails(
+    edges: &[u16],
+    assignment: &[i8],
+    atom: Atom,
+    distances: &Distances,
+    out: &mut [i16],
+) -> Answer
+    requires { ⌜ Told (edgesOf (now edges)) (now assignment) (atomOf atom) false (now distances) ⌝ }
+    requires { ⌜ atom .variable ≤ maxVariables ⌝ }
+    requires { ⌜ Over (edgesOf (now edges)) (λ φ. Settles φ (trueIn (now assignment)) (atomOf atom) false) ⌝ }
     ensures { λ r. ⌜ Over (edgesOf (now (edges .entry))) (λ φ. AnswerIs φ (now (assignment .entry)) (atomOf atom) r (now (out .entry)) (now (out .exit))) ⌝ }
 {
-    let marks = mark_cut(edges, assignment, atom, hops);
-    let variable = plan::wide(atom.variable);
-    write_answer(false, variable, &marks, assignment.len(), out)
+    let marks = mark_cut(edges, assignment, atom, distances);
+    write_answer(false, atom.variable, &marks, assignment.len(), out)
 }
 
 // The reason for the atom numbered `number`, from 0, under a partial assignment.
@@ -304,13 +343,12 @@ pub fn reason(
     ensures { λ r. ⌜ Over (edgesOf (now (edges .entry))) (λ φ. AnswerIs φ (now (assignment .entry)) (atom (atomsOf (now (atoms .entry))) number) r (now (out .entry)) (now (out .exit))) ⌝ }
 {
     let atom = plan::atom_at(atoms, number);
-    let source = plan::wide(atom.from);
-    let under = hops_from(edges, assignment, false, source);
-    let over = hops_from(edges, assignment, true, source);
-    let state = walk::settled(atom, under, over);
+    let holding = distances_by(edges, assignment, atom, true);
+    let failing = distances_by(edges, assignment, atom, false);
+    let state = walk::settled(atom, &holding, &failing);
     match state {
-        State::Holds => reason_holds(edges, assignment, atom, under, out),
-        State::Fails => reason_fails(edges, assignment, atom, over, out),
+        State::Holds => reason_holds(edges, assignment, atom, &holding, out),
+        State::Fails => reason_fails(edges, assignment, atom, &failing, out),
         State::Open => Answer::Open,
     }
 }

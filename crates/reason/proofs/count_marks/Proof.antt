@@ -1,5 +1,6 @@
+-- `reason::count_marks`: the count is that of the variables passed. The measure is the variables that are left.
 use mathlib.Core.Path.{_≡_, ap, sym, _∙_}
-use Prim.Native.Nat.{suc, _-_, _≤_}
+use Prim.Native.Nat.{suc, _+_, _-_, _≤_}
 use native.Mathlib.Numerals.{add-one}
 use native.Mathlib.Omega.{arith}
 use lib.ListN.{length}
@@ -14,26 +15,20 @@ Inv-loop marks variables count₀ v₀ count v = (v ≤ variables) × (count ≡
 abbrev μ-loop : tie.MeasureT-loop
 μ-loop marks variables count₀ v₀ count v = variables - v
 
-loop-holds : tie.Need-loop-holds Inv-loop μ-loop
-loop-holds c = (omega arith, ap length (sym (premises-zero (c .args .marks .now))))
-
-element-copy-out-one-if : tie.Need-element-copy-out-one-if Inv-loop μ-loop
-element-copy-out-one-if c = omega arith
-
-one-if-requires : tie.Need-one-if-requires Inv-loop μ-loop
-one-if-requires c κs = tt
+-- the count with one mark more
+next : (c : tie.After-one-if Inv-loop μ-loop)
+    → length (premises (c .before .before .before .before .args .marks .now) (suc (c .before .before .before .loop .v))) ≡ c .before .before .before .loop .count + c .one-if .result
+next c =
+    let at = c .before .before .before in
+    omega (arith, at .loop .inv .1, c .one-if .ensures, premises-count (at .before .args .marks .now) (at .loop .v) 0)
 
 add-count : tie.Need-add-count Inv-loop μ-loop
-add-count c = omega (arith, c .one-if .ensures, premises-count (c .before .before .before .before .args .marks .now) (c .before .before .before .loop .v) (omega arith), premises-most (c .before .before .before .before .args .marks .now) (suc (c .before .before .before .loop .v)))
-
-add-v : tie.Need-add-v Inv-loop μ-loop
-add-v c = omega arith
-
-loop-less : tie.Need-loop-less Inv-loop μ-loop
-loop-less c = omega arith
+add-count c =
+    let at = c .before .before .before in
+    omega (arith, next c, premises-most (at .before .args .marks .now) (suc (at .loop .v)))
 
 loop-again : tie.Need-loop-again Inv-loop μ-loop
-loop-again c = (omega arith, rw (add-one (c .before .before .before .loop .v)) (omega (arith, c .one-if .ensures, premises-count (c .before .before .before .before .args .marks .now) (c .before .before .before .loop .v) (omega arith))))
+loop-again c = (omega arith, rw (add-one (c .before .before .before .loop .v)) (sym (next c)))
 
 returns : tie.Need-returns Inv-loop μ-loop
 returns c =
@@ -43,14 +38,5 @@ returns c =
 pub count-marks-spec : {M : Type 1} → statement M
 count-marks-spec =
     tie.close
-    (tie.spec
-    Inv-loop
-    μ-loop
-    loop-holds
-    element-copy-out-one-if
-    one-if-requires
-    add-count
-    add-v
-    loop-less
-    loop-again
-    returns)
+    (tie.spec Inv-loop μ-loop (λ c. (omega arith, ap length (sym (premises-zero (c .args .marks .now))))) (λ c. omega arith) (λ c κs. tt) add-count
+    (λ c. omega arith) (λ c. omega arith) loop-again returns)

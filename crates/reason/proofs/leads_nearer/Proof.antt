@@ -1,74 +1,68 @@
-use mathlib.Core.Path.{_≡_, sym, ap, subst, _∙_}
-use borrow.Author.Tests.{not-true, not-false}
-use Prim.Native.Nat.{ℕ}
-use lib.Dec.{T, eqb, eqb→eq, eqb-refl}
-use Rattle.plan.specs.Tables.{edgeOf}
-use Rattle.walk.specs.Hopping.{bit}
-use Rattle.walk.proofs.Truths.{so, not-so}
-use Rattle.reason.proofs.Paths.{never, nearer-unreached, nearer-count}
+-- `reason::leads_nearer`: each test is one part of what it is to lead nearer.
+use mathlib.Core.Path.{_≡_, sym, ap, _∙_}
+use Prim.Native.Nat.{_-_}
 use borrow.Author.Needs.{needs}
+use borrow.Author.Tests.{not-true, not-false}
+use native.Mathlib.Omega.{arith}
+use lib.Dec.{eqb→eq, eqb-refl}
+use Rattle.plan.specs.Meaning.{graphOf, trueIn}
+use Rattle.plan.specs.Tables.{edgeOf, atomOf}
+use Rattle.walk.specs.Hopping.{reachedIn, distanceIn}
+use Rattle.walk.proofs.Truths.{so, not-so, reached-distance, distance-reached, distance-is}
+use Rattle.reason.specs.Marks.{holding}
+use Rattle.reason.proofs.Paths.{never}
 use Rattle.reason.proofs.leads_nearer.Statement.{statement}
 use Rattle.reason.proofs.leads_nearer.Tie as tie
 
-wide-requires : tie.Need-wide-requires
-wide-requires c κs = search needs
-
 returns : tie.Need-returns
-returns c es s x = never (λ q. c .if1 .taken (c .before .wide .ensures ∙ q .1))
+returns c = λ es x. never (λ q. c .if1 .taken (c .before .wide .ensures ∙ q .ends))
 
-is-present-requires : tie.Need-is-present-requires
-is-present-requires c κs = search needs
-
-returns-2 : tie.Need-returns-2
-returns-2 c es s x = never (λ q. not-so (c .before .is-present .ensures) (not-true _ (c .if2 .taken)) (q .0))
-
-wide-requires-2 : tie.Need-wide-requires-2
-wide-requires-2 c κs = search needs
-
-has-requires : tie.Need-has-requires
-has-requires c κs = search needs
-
--- whether the edge's start is reached
-module _ (c : tie.After-has) where
-  abbrev leads : tie.Else1
-  leads = c .before .before .before .before
+-- the edge ends at the node, and whether the graph has it
+module _ (c : tie.After-is-present) where
+  abbrev ends : tie.Else1
+  ends = c .before .before
 
   abbrev begin : tie.Start
-  begin = leads .before .before
+  begin = ends .before .before
 
-  from-is : c .has .result ≡ bit (begin .args .edge .from) (begin .args .t3 .reached)
-  from-is = c .has .ensures ∙ ap (λ (n : ℕ). bit n (begin .args .t3 .reached)) (c .before .wide2 .ensures)
+  present-is : c .is-present .result ≡ holding (begin .args .assignment .now) (atomOf (begin .args .atom)) (edgeOf (begin .args .edge))
+  present-is = c .is-present .ensures ∙ ap (λ s. graphOf s (trueIn (begin .args .assignment .now)) (edgeOf (begin .args .edge))) (c .before .settling-side .ensures (begin .args .atom .kind))
+
+returns-2 : tie.Need-returns-2
+returns-2 c = λ es x. never (λ q. not-so (present-is (c .before)) (not-true _ (c .if2 .taken)) (q .present))
+
+-- it has, and whether the edge's start is reached
+module _ (c : tie.After-is-reached) where
+  abbrev tried : tie.After-is-present
+  tried = c .before .before .before
+
+  abbrev first : tie.Start
+  first = begin tried
+
+  from-is : c .is-reached .result ≡ reachedIn (first .args .distances .now) (first .args .edge .from)
+  from-is = c .is-reached .ensures ∙ ap (reachedIn (first .args .distances .now)) (c .before .wide2 .ensures)
 
 returns-3 : tie.Need-returns-3
-returns-3 c es s x =
-    let d = c .before in
-    never (λ q. nearer-unreached x (begin d .args .count) (edgeOf (begin d .args .edge)) (not-so (from-is d) (not-true _ (c .if3 .taken))) (q .2))
-
-element-copy-out-number : tie.Need-element-copy-out-number
-element-copy-out-number c = search needs
+returns-3 c = λ es x. never (λ q. not-so (from-is (c .before)) (not-true _ (c .if3 .taken)) (distance-reached x _ _ (q .near)))
 
 returns-4 : tie.Need-returns-4
-returns-4 c es s x =
+returns-4 c = λ es x.
     let d = c .before .before in
-    let t = begin d .args in
-    let there = sym (leads d .before .wide .ensures) ∙ leads d .if1 .left in
-    let on-edge = so (d .before .before .before .is-present .ensures) (not-false _ (d .before .before .if2 .left)) in
-    let near = nearer-count x (t .count) (edgeOf (t .edge)) (so (from-is d) (not-false _ (c .before .if3 .left))) in
-    rw (d .before .wide2 .ensures) (
-      (λ e. (on-edge, there, near .0 (eqb→eq _ _ e))),
-      (λ q. subst (λ (k : ℕ). T (eqb k (t .count))) (sym (near .1 (q .2))) (eqb-refl (t .count))),
+    let t = first d .args in
+    let near = distanceIn (t .distances .now) (t .edge .from) in
+    let is : c .distance .result ≡ near = c .distance .ensures ∙ ap (distanceIn (t .distances .now)) (d .before .wide2 .ensures) in (
+      (λ e. record {
+        present = so (present-is (tried d)) (not-false _ (d .before .before .if2 .left));
+        ends = sym (ends (tried d) .before .wide .ensures) ∙ ends (tried d) .if1 .left;
+        before = near;
+        near = reached-distance x _ (so (from-is d) (not-false _ (c .before .if3 .left)));
+        sum = omega (arith, eqb→eq (c .distance .result) (t .count - 1) e, first d .pre .1);
+      }),
+      (λ q. let e : c .distance .result ≡ t .count - 1 = omega (arith, distance-is x _ _ (q .near), q .sum) in rw e (eqb-refl (t .count - 1))),
     )
 
 pub leads-nearer-spec : {M : Type 1} → statement M
 leads-nearer-spec =
     tie.close
-    (tie.spec
-    wide-requires
-    returns
-    is-present-requires
-    returns-2
-    wide-requires-2
-    has-requires
-    returns-3
-    element-copy-out-number
-    returns-4)
+    (tie.spec (λ c κs. search needs) returns (λ c κs. search needs) (λ c κs. search needs) returns-2 (λ c κs. search needs) (λ c κs. search needs)
+    returns-3 (λ c κs. search needs) (λ c. search needs) returns-4)

@@ -1,82 +1,44 @@
-use mathlib.Core.Path.{refl}
-use mathlib.Core.List.{List}
-use native.Mathlib.Omega.{arith}
-use lib.ListN.{length, getD}
-use Rattle.plan.specs.Meaning.{Edge, trueIn, under}
-use Rattle.plan.specs.Meaning as meaning
-use Rattle.plan.specs.Tables.{edgesOf, atomOf}
-use Rattle.walk.specs.Hopping.{HopTable}
-use Rattle.walk.proofs.Truths.{reached-hops}
-use Rattle.reason.proofs.Answering.{true-reached, holds-answer}
+-- `reason::reason_holds`: the clause of the marked path to the target is the reason.
+use mathlib.Core.Path.{refl, sym, ap, subst, _∙_}
 use borrow.Author.Needs.{needs}
+use lib.ListN.{length}
+use Rattle.plan.specs.Tables.{edgesOf, atomOf}
+use Rattle.walk.specs.Hopping.{distanceIn}
+use Rattle.walk.proofs.Truths.{reached-distance, distance-reached}
+use Rattle.reason.specs.Answers.{withEdges}
+use Rattle.reason.specs.Marks.{Away}
+use Rattle.reason.proofs.Cuts.{bare}
+use Rattle.reason.proofs.Answering.{holds-by, answer-holds}
 use Rattle.reason.proofs.reason_holds.Statement.{statement}
 use Rattle.reason.proofs.reason_holds.Tie as tie
 
-wide-requires : tie.Need-wide-requires
-wide-requires c κs = search needs
-
-element-copy-out-count : tie.Need-element-copy-out-count
-element-copy-out-count c = search needs
-
--- the hops to the target
-module _ (c : tie.After-wide) where
+-- the distance of the target, which is reached since the atom is true
+module _ (c : tie.After-distance) where
   abbrev begin : tie.Start
-  begin = c .before .before
+  begin = c .before .before .before
 
-  abbrev edges : List Edge
-  edges = edgesOf (begin .args .edges .now)
-
-  table : HopTable edges (under (trueIn (begin .args .assignment .now))) (begin .args .atom .from) (begin .args .t4)
-  table = begin .pre .1 .1 .1 .1 .1 .0
-
-  nearest : meaning.Hops edges (under (trueIn (begin .args .assignment .now))) (begin .args .atom .from) (c .wide .result) (getD (begin .args .t4 .counts) (c .wide .result) 0)
+  nearest : Away (edgesOf (begin .args .edges .now)) (begin .args .assignment .now) (atomOf (begin .args .atom)) (begin .args .atom .to) (c .distance .result)
   nearest =
-      let A = begin .args .atom in
-      reached-hops table (c .wide .result) (rw (c .wide .ensures) (true-reached table (A .kind) (A .bound) (A .to) (begin .pre .1 .1 .1 .1 .1 .1)))
+      let to = begin .args .atom .to in
+      let table = begin .pre .0 .table in
+      let way = begin .pre .1 .1 .1 bare in
+      subst (λ k. Away (edgesOf (begin .args .edges .now)) (begin .args .assignment .now) (atomOf (begin .args .atom)) to k)
+      (sym (c .distance .ensures ∙ ap (distanceIn (begin .args .distances .now)) (c .before .wide .ensures))) (reached-distance table to (distance-reached table to (way .0) (way .1)))
 
 mark-path-requires : tie.Need-mark-path-requires
-mark-path-requires c κs =
-    let d = c .before .before in
-    let p = begin d .pre in
-    (p .0, (p .1 .0, (p .1 .1 .0, ((begin d .args .atom .from, table d, nearest d), refl))))
-
-wide-requires-2 : tie.Need-wide-requires-2
-wide-requires-2 c κs = search needs
-
--- behind the marking of the path
-module _ (c : tie.After-wide2) where
-  abbrev target : tie.After-wide
-  target = c .before .before .before .before
-
-  abbrev start : tie.Start
-  start = begin target
-
-write-answer-requires : tie.Need-write-answer-requires
-write-answer-requires c κs =
-    let d = c .before .before in
-    let p = start d .pre in
-    (d .before .mark-path .ensures (start d .args .atom .from) (table (target d)) .marks .long, (p .1 .1 .0, omega (arith, d .wide2 .ensures, p .1 .1 .1 .1 .0)))
-
-same-length : tie.Need-same-length
-same-length c = search needs
+mark-path-requires c κs = let d = c .before in (begin d .pre .0, (rw (d .before .wide .ensures) (nearest d), refl))
 
 returns : tie.Need-returns
-returns c φ e =
-    let d = c .before .before .before .before in
-    let t = start d .args in
-    let p = start d .pre in
-    holds-answer (edges (target d)) (t .assignment .now) (atomOf (t .atom)) (length (t .assignment .now)) (d .wide2 .result) _ (c .before .write-answer .result) (t .out .now) _
-    (p .1 .0) (d .wide2 .ensures) φ e (target d .wide .result) _ (target d .wide .ensures) (p .1 .1 .1 .1 .1 .1) (nearest (target d))
-    (d .before .mark-path .ensures (t .atom .from) (table (target d))) (c .before .write-answer .ensures)
+returns c = λ φ.
+    let p = c .before .before .before .before in
+    let d = p .before .before in
+    let t = begin d .args in
+    let file = withEdges (edgesOf (t .edges .now)) φ in
+    let a = t .assignment .now in
+    answer-holds file a (atomOf (t .atom)) _ (t .out .now) _ (c .before .write-answer .result)
+    (holds-by file a (atomOf (t .atom)) (length a) _ (begin d .pre .0 .fits .placed) 512 (d .distance .result) (begin d .pre .1 .1 .1 φ) (nearest d)
+    (rw (d .before .wide .ensures) at (p .mark-path .ensures))) (c .before .write-answer .ensures)
 
 pub reason-holds-spec : {M : Type 1} → statement M
 reason-holds-spec =
-    tie.close
-    (tie.spec
-    wide-requires
-    element-copy-out-count
-    mark-path-requires
-    wide-requires-2
-    write-answer-requires
-    same-length
-    returns)
+    tie.close (tie.spec (λ c κs. search needs) (λ c κs. search needs) mark-path-requires (λ c κs. search needs) (λ c. search needs) returns)

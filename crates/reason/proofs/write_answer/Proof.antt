@@ -1,65 +1,63 @@
-use mathlib.Core.Path.{ap, subst, _∙_}
+-- `reason::write_answer`: the clause has one literal more than there are marks, and is written exactly if there is room.
+use mathlib.Core.Path.{_≡_, refl, subst}
 use mathlib.Core.Bool.{not}
-use Prim.Native.Nat.{_+_}
-use native.Mathlib.Omega.{arith}
-use mir.Syntax.{w16}
-use mir.Val.{SFits}
-use mir.Facts.{toZ-ofZ}
-use Rattle.plan.specs.Tables.{literalOf}
-use Rattle.reason.specs.Marks.{Starts}
-use Rattle.reason.proofs.Listing.{clauseUpTo, premises-most}
-use Rattle.reason.proofs.Answering.{gave, too-short}
+use mathlib.Core.List.{List, []}
+use Prim.Native.Nat.{ℕ, _+_}
 use borrow.Author.Needs.{needs}
+use native.Mathlib.Omega.{arith}
+use lib.IntN.{ℤ}
+use lib.ListN.{length}
+use Rattle.plan.specs.Buffers.{Wrote}
+use Rattle.plan.specs.Meaning.{literalOf}
+use Rattle.reason.specs.Answers.{Given}
+use Rattle.reason.specs.Marks.{clauseOf}
+use Rattle.reason.proofs.Listing.{clause-length, premises-most, appends-then}
 use Rattle.reason.proofs.write_answer.Statement.{statement}
 use Rattle.reason.proofs.write_answer.Tie as tie
 
-count-marks-requires : tie.Need-count-marks-requires
-count-marks-requires c κs = search needs
+-- the clause, and its length
+module _ (c : tie.After-count-marks) where
+  abbrev begin : tie.Start
+  begin = c .before
+
+  abbrev clauseFrom : ℕ → List ℤ
+  clauseFrom v = clauseOf (literalOf (begin .args .holds) v) (not (begin .args .holds)) (begin .args .marks .now) (begin .args .variables)
+
+  abbrev clause : List ℤ
+  clause = clauseFrom (begin .args .variable)
+
+  counted : c .count-marks .result + 1 ≡ length clause
+  counted = omega (arith, c .count-marks .ensures, clause-length (literalOf (begin .args .holds) (begin .args .variable)) (not (begin .args .holds)) (begin .args .marks .now) (begin .args .variables))
 
 add-length : tie.Need-add-length
-add-length c = omega (arith, c .count-marks .ensures, premises-most (c .before .args .marks .now) (c .before .args .variables), c .before .pre .0)
+add-length c = omega (arith, c .count-marks .ensures, premises-most (begin c .args .marks .now) (begin c .args .variables), begin c .pre .0)
 
 returns : tie.Need-returns
-returns c = too-short (literalOf (c .before .before .args .holds) (c .before .before .args .variable)) (not (c .before .before .args .holds)) (c .before .before .args .marks .now) (c .before .before .args .variables) _ (ap (λ k. k + 1) (c .before .count-marks .ensures)) (c .before .before .args .out .now) (c .if1 .taken)
+returns c = let d = c .before in record { counted = counted d; short = omega (arith, counted d, c .if1 .taken); kept = refl }
 
-literal-of-requires : tie.Need-literal-of-requires
-literal-of-requires c κs = search needs
+write-marks-requires : tie.Need-write-marks-requires
+write-marks-requires c κs =
+    let w = c .before .before in
+    let d = w .before .before .before .before in
+    (begin d .pre .0, omega (arith, d .count-marks .ensures, w .before .before .before .if1 .left, w .write-mark .ensures .ends, w .write-mark .kept .1 .1 .1 .1 .0))
 
-write-clause-requires : tie.Need-write-clause-requires
-write-clause-requires c κs = search needs
+-- it is written
+module _ (c : tie.After-write-marks) where
+  abbrev asked : tie.After-count-marks
+  asked = c .before .before .before .before .before .before .before
 
-same-length : tie.Need-same-length
-same-length c = search needs
-
-returns-2 : tie.Need-returns-2
-returns-2 c =
-    let f : SFits w16 (c .before .before .before .before .literal-of .result) = search needs in (
-      c .if2 .taken,
-      gave (literalOf (c .before .before .before .before .before .before .before .args .holds) (c .before .before .before .before .before .before .before .args .variable)) (not (c .before .before .before .before .before .before .before .args .holds)) (c .before .before .before .before .before .before .before .args .marks .now) (c .before .before .before .before .before .before .before .args .variables) _ (ap (λ k. k + 1) (c .before .before .before .before .before .before .count-marks .ensures)) (c .before .before .before .before .before .before .before .args .out .now) _ (c .before .before .before .before .before .if1 .left)
-          (subst (λ x. Starts (clauseUpTo x (not (c .before .before .before .before .before .before .before .args .holds)) (c .before .before .before .before .before .before .before .args .marks .now) (c .before .before .before .before .before .before .before .args .variables)) (c .before .before .before .before .before .before .before .args .out .now) (c .before .before .write-clause .last .1 .1 .1 .1 .0)) (toZ-ofZ f ∙ c .before .before .before .before .literal-of .ensures) (c .before .before .write-clause .ensures)),
-    )
-
-same-length-2 : tie.Need-same-length-2
-same-length-2 c = search needs
-
-returns-3 : tie.Need-returns-3
-returns-3 c =
-    let f : SFits w16 (c .before .before .before .before .literal-of .result) = search needs in (
-      c .if2 .left,
-      gave (literalOf (c .before .before .before .before .before .before .before .args .holds) (c .before .before .before .before .before .before .before .args .variable)) (not (c .before .before .before .before .before .before .before .args .holds)) (c .before .before .before .before .before .before .before .args .marks .now) (c .before .before .before .before .before .before .before .args .variables) _ (ap (λ k. k + 1) (c .before .before .before .before .before .before .count-marks .ensures)) (c .before .before .before .before .before .before .before .args .out .now) _ (c .before .before .before .before .before .if1 .left)
-          (subst (λ x. Starts (clauseUpTo x (not (c .before .before .before .before .before .before .before .args .holds)) (c .before .before .before .before .before .before .before .args .marks .now) (c .before .before .before .before .before .before .before .args .variables)) (c .before .before .before .before .before .before .before .args .out .now) (c .before .before .write-clause .last .1 .1 .1 .1 .0)) (toZ-ofZ f ∙ c .before .before .before .before .literal-of .ensures) (c .before .before .write-clause .ensures)),
-    )
+  given : Given (clause asked) (begin asked .args .out .now) (c .write-marks .last .1 .1 .1 .1 .0) (asked .count-marks .result + 1)
+  given =
+      let w = c .before .before .before in
+      record {
+        counted = counted asked;
+        fits = omega (arith, counted asked, w .before .before .before .if1 .left);
+        wrote = subst (λ v. Wrote (clauseFrom asked v) (begin asked .args .out .now) (c .write-marks .last .1 .1 .1 .1 .0)) (w .before .before .wide .ensures)
+            (appends-then (w .write-mark .ensures) (c .write-marks .ensures) .wrote [] (begin asked .args .out .now) refl refl);
+      }
 
 pub write-answer-spec : {M : Type 1} → statement M
 write-answer-spec =
     tie.close
-    (tie.spec
-    count-marks-requires
-    add-length
-    returns
-    literal-of-requires
-    write-clause-requires
-    same-length
-    returns-2
-    same-length-2
-    returns-3)
+    (tie.spec (λ c κs. search needs) add-length returns (λ c κs. search needs) (λ c κs. search needs) write-marks-requires (λ c. search needs)
+    (λ c. (c .if2 .taken, given (c .before .before))) (λ c. search needs) (λ c. (c .if2 .left, given (c .before .before))))
