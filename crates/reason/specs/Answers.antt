@@ -4,23 +4,17 @@ use mathlib.Core.Path.{_≡_}
 use mathlib.Core.Logic.{_⊎_}
 use mathlib.Core.Bool.{Bool, true, false}
 use mathlib.Core.List.{List}
-use Prim.Native.Nat.{ℕ, _≤_, _<_}
+use Prim.Native.Nat.{ℕ, _<_}
 use lib.ListN.{length}
 use lib.IntN.{ℤ}
 use Rattle.plan.specs.Meaning.{Edge, Atom, PlanFile}
-use Rattle.plan.specs.Buffers.{Kept, Wrote}
+use Rattle.plan.specs.Buffers.{Kept, Answered}
 use Rattle.plan.specs.Reason.{holds, fails, neither, ReasonIs}
 use Rattle.plan.specs.Search.{Assigned}
 use Rattle.plan.specs.Tables.{Lent}
 use Rattle.plan.specs.declared.Plan.{Plan}
 use Rattle.reason.specs.declared.Answer.{Answer}
 use Rattle.reason.specs.declared.Answer.the-variants.{Holds, Fails, Open, Short}
-
--- The clause is written, and its length answered.
-pub record Given (clause before after : List ℤ) (n : ℕ) : Type 0 where
-  pub counted : n ≡ length clause
-  pub fits : length clause ≤ length before
-  pub wrote : Wrote clause before after
 
 -- The clause has more literals than there are places: nothing is written, and its length answered.
 pub record TooLong (clause before after : List ℤ) (n : ℕ) : Type 0 where
@@ -30,8 +24,8 @@ pub record TooLong (clause before after : List ℤ) (n : ℕ) : Type 0 where
 
 -- What each case of the code's answer says.
 abbrev pub AnswerIs : PlanFile → List ℤ → Atom → Answer → List ℤ → List ℤ → Type 0
-AnswerIs φ a A (Holds n) before after = (r : List ℤ) × ReasonIs φ a A (holds r) × Given r before after n
-AnswerIs φ a A (Fails n) before after = (r : List ℤ) × ReasonIs φ a A (fails r) × Given r before after n
+AnswerIs φ a A (Holds n) before after = (r : List ℤ) × ReasonIs φ a A (holds r) × Answered r before after n
+AnswerIs φ a A (Fails n) before after = (r : List ℤ) × ReasonIs φ a A (fails r) × Answered r before after n
 AnswerIs φ a A Open before after = ReasonIs φ a A neither × Kept before after
 AnswerIs φ a A (Short n) before after = (r : List ℤ) × (ReasonIs φ a A (holds r) ⊎ ReasonIs φ a A (fails r)) × TooLong r before after n
 
@@ -44,8 +38,8 @@ Over es P = (φ : PlanFile) → P (withEdges es φ)
 
 -- The clause C is the answer's, for "holds" at true and for "fails" at false.
 abbrev pub Answers : Bool → List ℤ → Answer → List ℤ → List ℤ → Type 0
-Answers b C (Holds n) before after = (b ≡ true) × Given C before after n
-Answers b C (Fails n) before after = (b ≡ false) × Given C before after n
+Answers b C (Holds n) before after = (b ≡ true) × Answered C before after n
+Answers b C (Fails n) before after = (b ≡ false) × Answered C before after n
 Answers b C Open before after = ⊥
 Answers b C (Short n) before after = TooLong C before after n
 

@@ -9,7 +9,7 @@ use lib.IntN.{ℤ}
 use lib.ListN.{length}
 use Rattle.plan.specs.Buffers.{Wrote}
 use Rattle.plan.specs.Meaning.{literalOf}
-use Rattle.reason.specs.Answers.{Given}
+use Rattle.plan.specs.Buffers.{Answered}
 use Rattle.reason.specs.Marks.{clauseOf}
 use Rattle.reason.proofs.Listing.{clause-length, premises-most, appends-then}
 use Rattle.reason.proofs.write_answer.Statement.{statement}
@@ -46,7 +46,7 @@ module _ (c : tie.After-write-marks) where
   abbrev asked : tie.After-count-marks
   asked = c .before .before .before .before .before .before .before
 
-  given : Given (clause asked) (begin asked .args .out .now) (c .write-marks .last .1 .1 .1 .1 .0) (asked .count-marks .result + 1)
+  given : Answered (clause asked) (begin asked .args .out .now) (c .write-marks .last .1 .1 .1 .1 .0) (asked .count-marks .result + 1)
   given =
       let w = c .before .before .before in
       record {
