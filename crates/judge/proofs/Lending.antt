@@ -8,6 +8,7 @@ use native.Mathlib.Omega.{arith}
 use lib.IntN.{ℤ}
 use lib.ListN.{length}
 use Rattle.plan.specs.Meaning.{Full}
+use Rattle.plan.specs.Ranged.{maxVariables}
 use Rattle.plan.specs.Search.{Assigned}
 use Rattle.plan.specs.Tables.{atomsOf, Lent}
 use Rattle.plan.specs.ClauseTable.{Table}
@@ -20,7 +21,7 @@ pub full-assigned : (n : ℕ) (a : List ℤ) → Full n a → Assigned (length a
 full-assigned n a f = subst (λ k. Assigned k a) (sym (f .long)) (record { long = f .long; each = λ i l. ⊎-elim (λ e. inl e) (λ e. inr (inl e)) (f .each i l) })
 
 module _ {p : Plan} {es bs : List ℕ} {cs : List ℤ} (l : Lent p es bs cs) (n : ℕ) (h : n ≡ p .variables) where
-  pub few : n ≤ 512
+  pub few : n ≤ maxVariables
   few = omega (arith, l .ranged .variables)
 
   pub lent-clauses : Table n cs

@@ -8,6 +8,7 @@ ghost use Prim.Native.Nat.{_*_, _<_, _≤_};
 ghost use lib.Dec.{T};
 ghost use lib.ListN.{length};
 ghost use Rattle.plan.specs.Meaning.{Full, HasTrue};
+ghost use Rattle.plan.specs.Ranged.{maxVariables};
 ghost use Rattle.plan.specs.Search.{Assigned};
 ghost use Rattle.plan.specs.Judging.{Judged};
 ghost use Rattle.plan.specs.Tables.{edgesOf, atomsOf, atomOf, clausesOf, planOf, Lent};
@@ -31,7 +32,7 @@ pub enum First {
 // Whether a clause has a true literal.
 fn has_true(assignment: &[i8], clause: &[i16]) -> bool
     requires { ⌜ Assigned (length (now assignment)) (now assignment) ⌝ }
-    requires { ⌜ length (now assignment) ≤ 512 ⌝ }
+    requires { ⌜ length (now assignment) ≤ maxVariables ⌝ }
     requires { ⌜ LiteralsFit (length (now assignment)) (now clause) ⌝ }
     ensures { λ r. ⌜ (T r ↔ HasTrue (now (assignment .entry)) (now (clause .entry))) ⌝ }
 {
@@ -50,7 +51,7 @@ fn has_true(assignment: &[i8], clause: &[i16]) -> bool
 // The first clause without a true literal.
 fn first_untrue(assignment: &[i8], clauses: &[i16]) -> First
     requires { ⌜ Assigned (length (now assignment)) (now assignment) ⌝ }
-    requires { ⌜ length (now assignment) ≤ 512 ⌝ }
+    requires { ⌜ length (now assignment) ≤ maxVariables ⌝ }
     requires { ⌜ Table (length (now assignment)) (now clauses) ⌝ }
     ensures { λ r. ⌜ FirstIs (HasTrue (now (assignment .entry))) (clausesOf (now (clauses .entry))) r ⌝ }
 {

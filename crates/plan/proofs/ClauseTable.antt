@@ -13,7 +13,6 @@ use lib.IntN.{ℤ, pos, negsuc, ℤ-discrete}
 use Rattle.plan.specs.Ranged.{LiteralFits, literals}
 use Rattle.plan.specs.Written.{flat}
 use Rattle.plan.specs.Tables.{inFront, clausesOf, Lent}
-use Rattle.plan.specs.Places.{Without}
 use Rattle.plan.specs.ClauseTable.{EndsAt, Ended, Table, End, BeginsAt, Begin, part, Stands, Around}
 use Rattle.plan.specs.declared.Plan.{Plan}
 use Rattle.plan.proofs.Walks.{le-or-lt, mem-at, at-mem}

@@ -1,19 +1,12 @@
 -- Reading the flat tables by place.
 -- Assumes nothing.
-use mathlib.Core.Path.{_≡_, refl, sym, subst, _∙_, ap}
-use mathlib.Core.Logic.{_⊎_, inl, inr, _≢_}
-use mathlib.Core.List.{List, [], _∷_, _++_, List·Memᴰ, List·Memᴰ·head, List·Memᴰ·tail}
+use mathlib.Core.Path.{_≡_, refl, sym, _∙_, ap}
+use mathlib.Core.List.{List, [], _∷_}
 use Prim.Native.Nat.{ℕ, zero, suc, _+_, _*_, _-_, _≤_, _<_}
-use native.Mathlib.Decide.{ℕ-discrete}
 use native.Mathlib.Omega.{arith}
-use lib.ListN.{length, getD, length-append, List·getD-append}
-use lib.Seq.{getD-append-add}
-use lib.IntN.{ℤ, pos, negsuc}
+use lib.ListN.{length, getD}
 use Rattle.plan.specs.Meaning.{Edge, Atom, kindOf}
-use Rattle.plan.specs.Ranged.{literals}
-use Rattle.plan.specs.Written.{flat}
-use Rattle.plan.specs.Tables.{edgesOf, atomsOf, inFront, clausesOf}
-use Rattle.plan.proofs.Walks.{le-or-lt, mem-at}
+use Rattle.plan.specs.Tables.{edgesOf, atomsOf}
 
 pub edges-length : (l : List ℕ) (n : ℕ) → length l ≡ n * 3 → length (edgesOf l) ≡ n
 unfolding edgesOf

@@ -127,6 +127,12 @@ module _ (t : ℕ) where
     is-then : then ≡ triedThen (whole begin) (suc (place begin))
     is-then = let f : SFits w16 (c .literal-of2 .result) = search needs in toZ-ofZ f ∙ c .literal-of2 .ensures ∙ ap on (add-one (place begin))
 
+    of-first : natAbs (triedFirst (whole begin) (suc (place begin))) ≡ suc (place begin)
+    of-first = first-of (whole begin) (suc (place begin))
+
+    of-then : natAbs (triedThen (whole begin) (suc (place begin))) ≡ suc (place begin)
+    of-then = then-of (whole begin) (suc (place begin))
+
     room : begin .args .count < begin .args .budget
     room = omega (arith, begin .pre .1 .0 .left, c .before .before .if1 .left)
 
@@ -142,7 +148,7 @@ module _ (t : ℕ) where
     Left v = Reported (whole entered) (add (set entered) (triedFirst (whole entered) (suc (place entered)))) (entered .args .budget) (entered .args .count + 1) v (take (n entered) (c .settle .result .plan .values)) (c .settle .result .count)
 
     left : Left (c .settle .result .verdict)
-    left = report-from (whole entered) _ _ _ _ _ _ (c .settle .result .verdict) (with-it entered _ (first made) (first-of (whole entered) _) (is-first made) (c .before .with .result .values) (c .before .with .ensures)) (c .settle .ensures)
+    left = report-from (whole entered) _ _ _ _ _ _ (c .settle .result .verdict) (with-it entered _ (first made) (of-first made) (is-first made) (c .before .with .result .values) (c .before .with .ensures)) (c .settle .ensures)
 
     left-none : c .settle .result .verdict ≡ Impossible → Left Impossible
     left-none e = subst Left e left
@@ -163,7 +169,7 @@ module _ (t : ℕ) where
   branch-literal-of-requires-2 c κs = small (c .before .before .before .before)
 
   branch-with-requires : branch-lts.Need-with-requires branch-calls branch-at branch.Post
-  branch-with-requires c κs = fits (begin c) _ (first c) (first-of (whole (begin c)) _) (is-first c)
+  branch-with-requires c κs = fits (begin c) _ (first c) (of-first c) (is-first c)
 
   branch-add-settle : branch-lts.Need-add-settle branch-calls branch-at branch.Post
   branch-add-settle c = let h = small (begin (c .before)) in search needs
@@ -172,13 +178,13 @@ module _ (t : ℕ) where
   branch-add-settle-2 c = let h = room (c .before) in omega arith
 
   branch-settle-requires : branch-lts.Need-settle-requires branch-calls branch-at branch.Post
-  branch-settle-requires c κs = let m = c .before in starts (begin m) _ (first m) (first-of (whole (begin m)) _) (is-first m) (c .with .result .values) (c .with .ensures) (begin m .args .count + 1) (omega (arith, room m))
+  branch-settle-requires c κs = let m = c .before in starts (begin m) _ (first m) (of-first m) (is-first m) (c .with .result .values) (c .with .ensures) (begin m .args .count + 1) (omega (arith, room m))
 
   branch-enum-told : branch-lts.Need-enum-told branch-calls branch-at branch.Post
   branch-enum-told c = search needs
 
   branch-with-requires-2 : branch-lts.Need-with-requires-2 branch-calls branch-at branch.Post
-  branch-with-requires-2 c κs = let m = made (c .before .before) in fits (begin m) _ (then m) (then-of (whole (begin m)) _) (is-then m)
+  branch-with-requires-2 c κs = let m = made (c .before .before) in fits (begin m) _ (then m) (of-then m) (is-then m)
 
   branch-add-settle-3 : branch-lts.Need-add-settle-3 branch-calls branch-at branch.Post
   branch-add-settle-3 c = let h = small (entered (c .before .before .before)) in search needs
@@ -187,7 +193,7 @@ module _ (t : ℕ) where
   branch-settle-requires-2 c κs =
       let s = c .before .before .before in
       let m = made s in
-      starts (begin m) _ (then m) (then-of (whole (begin m)) _) (is-then m) (c .with2 .result .values) (c .with2 .ensures) (s .settle .result .count) (left s .most)
+      starts (begin m) _ (then m) (of-then m) (is-then m) (c .with2 .result .values) (c .with2 .ensures) (s .settle .result .count) (left s .most)
 
   branch-returns-2 : branch-lts.Need-returns-2 branch-calls branch-at branch.Post
   branch-returns-2 c = λ b k.
@@ -196,7 +202,7 @@ module _ (t : ℕ) where
       let d = begin m in
       then-side (whole d) (lent d .ranged) b (set d) (place d) k (low d) (d .args .budget) (d .args .count) (room m) (take (n d) (s .settle .result .plan .values)) (s .settle .result .count)
       (left-none s (c .before .before .enum-told .given .1)) (c .settle2 .result .verdict) (take (n d) (c .settle2 .result .plan .values)) (c .settle2 .result .count)
-      (report-from (whole d) _ _ _ _ _ _ (c .settle2 .result .verdict) (with-it d _ (then m) (then-of (whole d) _) (is-then m) (c .before .with2 .result .values) (c .before .with2 .ensures)) (c .settle2 .ensures))
+      (report-from (whole d) _ _ _ _ _ _ (c .settle2 .result .verdict) (with-it d _ (then m) (of-then m) (is-then m) (c .before .with2 .result .values) (c .before .with2 .ensures)) (c .settle2 .ensures))
 
   branch-returns-3 : branch-lts.Need-returns-3 branch-calls branch-at branch.Post
   branch-returns-3 c = λ b k.

@@ -9,7 +9,7 @@ use lib.ListN.{length, take, replicate}
 use lib.Seq.{length-take-le}
 use Rattle.plan.specs.Meaning.{PlanFile}
 use Rattle.plan.specs.Ranged.{maxVariables}
-use Rattle.plan.specs.Search.{Assigned, Searched}
+use Rattle.plan.specs.Search.{Assigned, found, decided, Searched}
 use Rattle.plan.specs.Tables.{planOf}
 use Rattle.plan.proofs.Places.{without-none}
 use Rattle.unit.proofs.Following.{known-nothing}
@@ -100,7 +100,11 @@ returns : tie.Need-returns
 returns c =
     let w = c .before .before .before .before in
     let e = c .before .copy .ensures ∙ ap (λ m. take m (of-plan w)) (w .wide .ensures) in
-    record { searched = rw e (searched (ended w) _ (w .before .before .before .enum-told .given .1)); keeps = same-length c }
+    let d = ended w .before .before in
+    record {
+      searched = subst (λ p. Searched (whole d) (replicate (n d) (pos 0)) (begin d .args .budget) (decided (found p)) (ended w .settle .result .count)) (sym e) (searched (ended w) _ (w .before .before .before .enum-told .given .1));
+      keeps = same-length c;
+    }
 
 returns-2 : tie.Need-returns-2
 returns-2 c = record { searched = searched (c .before .before) _ (c .enum-told2 .given .1); keeps = refl }

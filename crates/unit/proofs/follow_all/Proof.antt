@@ -4,6 +4,7 @@ use mathlib.Core.Bool.{false}
 use Prim.Native.Nat.{_-_, _<_}
 use native.Mathlib.Omega.{arith}
 use borrow.Author.Needs.{needs}
+use Rattle.plan.specs.Ranged.{maxVariables}
 use Rattle.unit.specs.Queue.{Leads}
 use Rattle.unit.proofs.Following.{ready-kept, leads-none, leads-clash, leads-ends, leads-then, propagated-then}
 use Rattle.unit.proofs.follow_all.Statement.{statement}
@@ -13,7 +14,7 @@ abbrev Inv-loop : tie.InvT-loop
 Inv-loop clauses places values₀ queue₀ tail end₀ head₀ values queue end head = Leads clauses values₀ values queue head (record { clash = false; end = end })
 
 abbrev μ-loop : tie.MeasureT-loop
-μ-loop clauses places values₀ queue₀ tail end₀ head₀ values queue end head = 512 - head
+μ-loop clauses places values₀ queue₀ tail end₀ head₀ values queue end head = maxVariables - head
 
 loop-holds : tie.Need-loop-holds Inv-loop μ-loop
 loop-holds c = leads-none (c .pre .0 .shape) (c .pre .1 .1)
@@ -32,7 +33,7 @@ module _ (c : tie.After-follow Inv-loop μ-loop) where
   abbrev begin : tie.Start Inv-loop μ-loop
   begin = turn .before
 
-  inside : turn .loop .head < 512
+  inside : turn .loop .head < maxVariables
   inside = omega (arith, c .before .before .before .loop-test .taken, turn .loop .inv .goes refl .queue .room)
 
 returns : tie.Need-returns Inv-loop μ-loop

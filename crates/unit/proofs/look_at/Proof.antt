@@ -1,7 +1,7 @@
 -- What a clause says, by the first number at which the look stops and the next one behind it.
-use mathlib.Core.Path.{_≡_, ap, _∙_}
+use mathlib.Core.Path.{_≡_, ap, subst, _∙_}
 use mathlib.Core.List.{List}
-use Prim.Native.Nat.{ℕ, _+_}
+use Prim.Native.Nat.{_+_}
 use lib.IntN.{ℤ, pos}
 use lib.ListN.{getD}
 use mir.Syntax.{w16}
@@ -84,8 +84,11 @@ module _ (c : tie.After-stop-of2) where
   abbrev valued : tie.After-value-of
   valued = c .before .before
 
-  second-stop : Stop (begin (seen valued) .args .clauses .now) (values (seen valued)) (seen valued .before .stop-of .result + 1) (literal (seen valued)) (c .stop-of2 .result)
-  second-stop = rw (number (seen valued)) at (c .stop-of2 .ensures)
+  abbrev Second : ℤ → Type 0
+  Second l = Stop (begin (seen valued) .args .clauses .now) (values (seen valued)) (seen valued .before .stop-of .result + 1) l (c .stop-of2 .result)
+
+  second-stop : Second (literal (seen valued))
+  second-stop = subst Second (number (seen valued)) (c .stop-of2 .ensures)
 
 returns-3 : tie.Need-returns-3
 returns-3 c =

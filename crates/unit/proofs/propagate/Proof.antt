@@ -6,6 +6,7 @@ use lib.ListN.{set, replicate}
 use mir.Syntax.{w16}
 use mir.Val.{ofZ}
 use mir.Facts.{toZ-ofZ}
+use Rattle.plan.specs.Ranged.{maxVariables}
 use Rattle.unit.specs.Queue.{Pending, None}
 use Rattle.unit.proofs.Following.{ready-kept, pending-tried, leads-clash, propagated-then}
 use Rattle.unit.proofs.propagate.Statement.{statement}
@@ -18,8 +19,8 @@ follow-all-requires : tie.Need-follow-all-requires
 follow-all-requires c κs =
     let b = c .before .before .before in
     let t = b .pre .1 .1 (λ e. c .before .before .if1 .taken (ap (ofZ w16) e)) in
-    let p = subst (λ l. Pending (b .args .clauses .now) None (b .args .values .now) (set (replicate 512 (pos 0)) 0 l) 0 1) (sym (toZ-ofZ (b .fits .tried)))
-    (pending-tried (replicate 512 (pos 0)) (b .pre .0 .small) refl t) in
+    let p = subst (λ l. Pending (b .args .clauses .now) None (b .args .values .now) (set (replicate maxVariables (pos 0)) 0 l) 0 1) (sym (toZ-ofZ (b .fits .tried)))
+    (pending-tried (replicate maxVariables (pos 0)) (b .pre .0 .small) refl t) in
     (b .pre .0, (b .pre .1 .0, p))
 
 returns : tie.Need-returns

@@ -2,7 +2,7 @@
 use mathlib.Core.Path.{_≡_, ap, subst, _∙_}
 use mathlib.Core.List.{List}
 use mathlib.Core.Logic.{inl, inr, ⊎-elim}
-use Prim.Native.Nat.{ℕ, _-_, _+_, _≤_, _<_}
+use Prim.Native.Nat.{_-_, _+_, _≤_, _<_}
 use native.Mathlib.Omega.{arith}
 use borrow.Author.Needs.{needs}
 use lib.IntN.{ℤ, pos}

@@ -1,5 +1,5 @@
 -- The first 0 from a place on: no 0 stands between that place and the one reached, and the last number is a 0.
-use mathlib.Core.Path.{_≡_, ap}
+use mathlib.Core.Path.{ap}
 use Prim.Native.Nat.{_-_, _+_, _<_, _≤_}
 use native.Mathlib.Omega.{arith}
 use borrow.Author.Needs.{needs}

@@ -1,10 +1,10 @@
 -- The beginning of the clause around a place: no 0 stands from the place reached up to that place.
-use mathlib.Core.Path.{_≡_, ap}
-use Prim.Native.Nat.{_-_, _<_, _≤_}
+use mathlib.Core.Path.{ap}
+use Prim.Native.Nat.{_-_, _≤_}
 use native.Mathlib.Omega.{arith}
 use borrow.Author.Needs.{needs}
 use lib.IntN.{pos}
-use lib.ListN.{length, getD}
+use lib.ListN.{getD}
 use mir.Syntax.{w16}
 use mir.Val.{SFits, ofZ}
 use Rattle.plan.specs.Places.{Without}
