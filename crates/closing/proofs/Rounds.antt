@@ -11,7 +11,7 @@ use lib.Dec.{T, T-not, not-T}
 use Rattle.plan.specs.Meaning.{Edge, Atom, PlanFile, on, off, value, trueIn, under, over, edge}
 use Rattle.plan.specs.Ranged.{Ranged}
 use Rattle.plan.specs.Closing.{Settles, unit, settled, Obeys}
-use Rattle.plan.specs.Search.{Assigned, opens, nothing, Closes}
+use Rattle.plan.specs.Search.{Assigned, Closes}
 use Rattle.plan.specs.Tables.{edgesOf}
 use Rattle.plan.proofs.Exists.{step-done}
 use Rattle.plan.proofs.Tables.{edges-most}
@@ -24,7 +24,7 @@ use Rattle.unit.proofs.Steps.{onward-then, onward-fewer}
 use Rattle.closing.specs.Closed.{Looks}
 use Rattle.closing.specs.Atoms.{AllHeard}
 use Rattle.closing.specs.Rounds.{SameEdges, ClausesQuiet, AtomsQuiet, Round}
-use Rattle.closing.specs.declared.Step.the-variants.{Clash, Set, Still}
+use Rattle.closing.specs.declared.Step.the-variants.{Set, Still}
 
 -- with the same edges the same is settled of an atom
 settles-same : (b : Bool) (φ : PlanFile) → Ranged φ → (v w : List ℤ) → SameEdges (φ .edges) v w → (A : Atom) → Settles φ (trueIn w) A b → Settles φ (trueIn v) A b

@@ -1,15 +1,14 @@
 -- `closing::look_for`: the atoms before the place are heard, and the distances are those from the source in the graph that settles the verdict.
-use mathlib.Core.Path.{_≡_, refl, sym, ap, _∙_, subst}
+use mathlib.Core.Path.{_≡_, sym, ap, _∙_, subst}
 use mathlib.Core.Logic.{⊎-elim}
 use mathlib.Core.List.{List}
 use Prim.Native.Nat.{ℕ, _+_, _-_, _≤_, _<_}
 use native.Mathlib.Omega.{arith}
 use borrow.Author.Needs.{needs}
 use lib.IntN.{ℤ}
-use lib.ListN.{length}
 use Rattle.plan.specs.Meaning.{Atom, atom}
 use Rattle.plan.specs.Places.{First}
-use Rattle.plan.specs.Tables.{atomsOf, atomOf}
+use Rattle.plan.specs.Tables.{atomsOf}
 use Rattle.walk.specs.Hopping.{Walked}
 use Rattle.walk.proofs.Truths.{so}
 use Rattle.unit.specs.Onward.{Onward}
