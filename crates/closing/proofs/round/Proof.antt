@@ -1,6 +1,6 @@
 -- `closing::round`: where the look at the atoms changed nothing, or no edge is other than before it, all that the atoms settle is there.
 use mathlib.Core.Path.{_≡_, sym, subst}
-use mathlib.Core.Bool.{Bool, true, false}
+use mathlib.Core.Bool.{true, false}
 use mathlib.Core.List.{List}
 use borrow.Author.Needs.{needs}
 use lib.IntN.{ℤ}
@@ -12,7 +12,7 @@ use Rattle.unit.specs.Onward.{Onward}
 use Rattle.unit.specs.Queue.{BeginsWith, Since}
 use Rattle.unit.proofs.Steps.{onward-then}
 use Rattle.closing.specs.Closed.{Looks}
-use Rattle.closing.specs.Atoms.{AllHeard}
+use Rattle.closing.specs.Atoms.{BothHeard}
 use Rattle.closing.specs.Rounds.{Unchanged, ClausesQuiet}
 use Rattle.closing.specs.declared.Step.{Step}
 use Rattle.closing.specs.declared.Step.the-variants.{Clash, Set, Still}
@@ -46,10 +46,11 @@ module _ (c : tie.After-look-at-atoms) where
   begins : BeginsWith copy (given begin)
   begins = c .before .before .copy-of .ensures
 
-  looks : (r : Step) → c .look-at-atoms .result ≡ r → Looks (whole begin) ((b : Bool) → AllHeard (whole begin) b (given begin) between) (given begin) between r
-  looks r e =
-      subst (λ z. Looks (whole begin) ((b : Bool) → AllHeard (whole begin) b (given begin) between) (given begin) between z) e
-      (c .look-at-atoms .ensures (whole begin) (lent-tables (begin .pre .0) (shape begin)))
+  abbrev Look : Step → Type 0
+  Look r = Looks (whole begin) (BothHeard (whole begin) (given begin) between) (given begin) between r
+
+  looks : (r : Step) → c .look-at-atoms .result ≡ r → Look r
+  looks r e = subst Look e (c .look-at-atoms .ensures (whole begin) (lent-tables (begin .pre .0) (shape begin)))
 
 returns : tie.Need-returns
 returns c = let x = looks (c .before .before .before) Clash (c .enum-told .given .1) in record { onward = x .onward; tells = x .tells }
@@ -64,7 +65,7 @@ module _ (c : tie.After-enum-told3) where
   abbrev look : tie.After-look-at-atoms
   look = c .before .before .before
 
-  set : Looks (whole (begin look)) ((b : Bool) → AllHeard (whole (begin look)) b (given (begin look)) (between look)) (given (begin look)) (between look) Set
+  set : Look look Set
   set = looks look Set (c .enum-told3 .given .1)
 
   since : Since (begin look .args .clauses .now) (copy look) (between look)
@@ -105,7 +106,10 @@ returns-3 : tie.Need-returns-3
 returns-3 c =
     let d = c .before .before in
     let x = set (more d) .onward in
-    record { onward = onward-then (whole (first d)) (given (first d)) (between (look (more d))) (after d) x (next d); tells = x .back nothing (passed-clash (first d .pre .0) (x .shape) (d .propagate-changes .ensures) (c .if1 .taken)) }
+    record {
+      onward = onward-then (whole (first d)) (given (first d)) (between (look (more d))) (after d) x (next d);
+      tells = x .back nothing (passed-clash (first d .pre .0) (x .shape) (d .propagate-changes .ensures) (c .if1 .taken));
+    }
 
 same-edges-requires : tie.Need-same-edges-requires
 same-edges-requires c κs =
@@ -127,13 +131,15 @@ returns-4 : tie.Need-returns-4
 returns-4 c =
     let s = c .before in
     let d = passed s in
-    round-same (whole (first d)) (first d .pre .0 .ranged) (given (first d)) (between (look (more d))) (after d) (set (more d)) (next d) (quiet d (s .before .before .before .if1 .left)) (same s (c .if2 .taken))
+    round-same (whole (first d)) (first d .pre .0 .ranged) (given (first d)) (between (look (more d))) (after d) (set (more d)) (next d)
+    (quiet d (s .before .before .before .if1 .left)) (same s (c .if2 .taken))
 
 returns-5 : tie.Need-returns-5
 returns-5 c =
     let s = c .before in
     let d = passed s in
-    round-set (whole (first d)) (first d .pre .0 .ranged) (given (first d)) (between (look (more d))) (after d) (set (more d)) (next d) (quiet d (s .before .before .before .if1 .left))
+    round-set (whole (first d)) (first d .pre .0 .ranged) (given (first d)) (between (look (more d))) (after d) (set (more d)) (next d)
+    (quiet d (s .before .before .before .if1 .left))
 
 pub round-spec : {M : Type 1} → statement M
 round-spec =
