@@ -19,7 +19,6 @@ use Rattle.plan.specs.declared.Kind.{Kind}
 use Rattle.plan.specs.declared.Kind.the-variants.{Reaches}
 use Rattle.plan.specs.declared.Side.{Side}
 use Rattle.plan.proofs.Add.{add-has}
-use Rattle.plan.proofs.Bools.{T?}
 use Rattle.plan.proofs.Closing.{settles-mono}
 use Rattle.plan.proofs.Exists.{step-clash, literal-size, gives-range}
 use Rattle.plan.proofs.Tables.{atoms-length}
@@ -28,7 +27,7 @@ use Rattle.walk.specs.Hopping.{Inside, Placed, Neighbours, Walked, Truth, Settl
 use Rattle.unit.specs.Onward.{Onward}
 use Rattle.unit.proofs.Steps.{onward-none, onward-then, onward-fewer, onward-add, fewer-add}
 use Rattle.closing.specs.Closed.{isClash, andThen, Tells, Looks}
-use Rattle.closing.specs.Atoms.{AtomReady, AtomsReady, HasTables, Ready, Unsaid, Gets, Heard, AllHeard, Told, Looked, AllLooked}
+use Rattle.closing.specs.Atoms.{AtomReady, AtomsReady, HasTables, Ready, Unsaid, Gets, Heard, AllHeard, BothHeard, Told, Looked, AllLooked}
 use Rattle.closing.specs.declared.Step.{Step}
 use Rattle.closing.specs.declared.Step.the-variants.{Clash, Set, Still}
 
@@ -44,7 +43,7 @@ has-on f s = record { ranged = f .ranged; shape = s; edges = f .edges; atoms = f
 pub ready-on : {es bs : List ℕ} {count : ℕ} {a w : List ℤ} (x : Ready es bs count a) → Onward (x .file) a w → Ready es bs count w
 ready-on x o = record { file = x .file; has = has-on (x .has) (o .shape); long = x .long }
 
-pub listed : {es bs : List ℕ} {a : List ℤ} {φ : PlanFile} (count k : ℕ) → length bs ≡ count * 5 → k < count → HasTables es bs a φ → List·Memᴰ (atom (atomsOf bs) k) (φ .atoms)
+listed : {es bs : List ℕ} {a : List ℤ} {φ : PlanFile} (count k : ℕ) → length bs ≡ count * 5 → k < count → HasTables es bs a φ → List·Memᴰ (atom (atomsOf bs) k) (φ .atoms)
 listed {es} {bs} count k l h f = subst (λ As. List·Memᴰ (atom (atomsOf bs) k) As) (sym (f .atoms)) (mem-at (atomsOf bs) _ k (omega (arith, atoms-length bs count l)))
 
 module _ {es bs : List ℕ} {count : ℕ} {a : List ℤ} (x : Ready es bs count a) where
@@ -132,30 +131,33 @@ looks-clash φ v w Set t x = absurd t
 looks-clash φ v w Still t x = absurd t
 
 -- all atoms: those before number `at` are heard
+abbrev HeardTo : PlanFile → Bool → List ℤ → List ℤ → ℕ → Type 0
+HeardTo φ b v₀ v at = (j : ℕ) → j < at → Heard φ b v₀ v (atom (φ .atoms) j)
+
 abbrev pub Sweeps : List ℕ → List ℕ → Bool → List ℤ → List ℤ → ℕ → Step → Type 0
-Sweeps es bs b v₀ v at r = (φ : PlanFile) → HasTables es bs v₀ φ → Looks φ ((j : ℕ) → j < at → Heard φ b v₀ v (atom (φ .atoms) j)) v₀ v r
+Sweeps es bs b v₀ v at r = (φ : PlanFile) → HasTables es bs v₀ φ → Looks φ (HeardTo φ b v₀ v at) v₀ v r
+
+stable : (b : Bool) → ((T b → ⊥) → ⊥) → T b
+stable true n = tt
+stable false n = n (λ t. t)
 
 module _ {es bs : List ℕ} (b : Bool) (v₀ v : List ℤ) where
   -- those that a search for the next passes by have their literals
-  passed : (φ : PlanFile) → HasTables es bs v₀ φ → (k at : ℕ) → Without (Unsaid bs b v) k at → (j : ℕ) → k ≤ j → j < at → T (trueIn v (literalOf b (atom (φ .atoms) j .variable)))
-  passed φ f k at n j p q = go (T? (trueIn v (literalOf b (atom (φ .atoms) j .variable))))
-    where
-      go : T (trueIn v (literalOf b (atom (φ .atoms) j .variable))) ⊎ (T (trueIn v (literalOf b (atom (φ .atoms) j .variable))) → ⊥)
-          → T (trueIn v (literalOf b (atom (φ .atoms) j .variable)))
-      go (inl t) = t
-      go (inr o) = absurd (n j p q (subst (λ As. T (trueIn v (literalOf b (atom As j .variable))) → ⊥) (f .atoms) o))
+  passed : (φ : PlanFile) → HasTables es bs v₀ φ → (k at : ℕ) → Without (Unsaid bs b v) k at → (j : ℕ) → k ≤ j → j < at → Heard φ b v₀ v (atom (φ .atoms) j)
+  passed φ f k at n j p q x =
+      stable (trueIn v (literalOf b (atom (φ .atoms) j .variable))) (λ o. n j p q (subst (λ As. T (trueIn v (literalOf b (atom As j .variable))) → ⊥) (f .atoms) o))
 
   pub sweep-past : (k at : ℕ) (r : Step) → Without (Unsaid bs b v) k at → Sweeps es bs b v₀ v k r → Sweeps es bs b v₀ v at r
   sweep-past k at r n x φ f = looks-so φ v₀ v r (λ h j q. pick h j q (le-or-lt k j)) (x φ f)
     where
-      pick : ((j : ℕ) → j < k → Heard φ b v₀ v (atom (φ .atoms) j)) → (j : ℕ) → j < at → (k ≤ j) ⊎ (j < k) → Heard φ b v₀ v (atom (φ .atoms) j)
-      pick h j q (inl p) = λ y. passed φ f k at n j p q
+      pick : HeardTo φ b v₀ v k → (j : ℕ) → j < at → (k ≤ j) ⊎ (j < k) → Heard φ b v₀ v (atom (φ .atoms) j)
+      pick h j q (inl p) = passed φ f k at n j p q
       pick h j q (inr p) = h j p
 
   pub sweep-end : (count at : ℕ) (r : Step) → length bs ≡ count * 5 → count ≤ at → Sweeps es bs b v₀ v at r → Looked es bs b v₀ v r
   sweep-end count at r l h x φ f = looks-so φ v₀ v r all (x φ f)
     where
-      all : ((j : ℕ) → j < at → Heard φ b v₀ v (atom (φ .atoms) j)) → AllHeard φ b v₀ v
+      all : HeardTo φ b v₀ v at → AllHeard φ b v₀ v
       all g A m =
           let q = at-mem (φ .atoms) (record { kind = Reaches; from = 0; to = 0; bound = 0; variable = 0 }) A m in
           let e : length (φ .atoms) ≡ count = ap length (f .atoms) ∙ atoms-length bs count l in
@@ -170,32 +172,26 @@ pub sweep-one : {es bs : List ℕ} (b : Bool) (v₀ v w : List ℤ) (count at : 
     → Told b (atom (atomsOf bs) at) d v w r → Sweeps es bs b v₀ v at a → Sweeps es bs b v₀ w (at + 1) (andThen a r)
 sweep-one {es} {bs} b v₀ v w count at d a r l h k t x φ f =
     let y = x φ f in
-    looks-then φ ((j : ℕ) → j < at + 1 → Heard φ b v₀ w (atom (φ .atoms) j)) v₀ v w (f .shape) a r y
+    looks-then φ (HeardTo φ b v₀ w (at + 1)) v₀ v w (f .shape) a r y
     (t φ (f .ranged) (y .onward .shape) (listed count at l h f) v₀ (y .onward .above) (k φ f))
     (λ o old new j q. pick o old new j q (le-or-lt at j))
   where
-    pick : Onward φ v w → ((j : ℕ) → j < at → Heard φ b v₀ v (atom (φ .atoms) j)) → Heard φ b v₀ w (atom (atomsOf bs) at)
+    pick : Onward φ v w → HeardTo φ b v₀ v at → Heard φ b v₀ w (atom (atomsOf bs) at)
         → (j : ℕ) → j < at + 1 → (at ≤ j) ⊎ (j < at) → Heard φ b v₀ w (atom (φ .atoms) j)
     pick o old new j q (inl p) = let e : at ≡ j = omega arith in subst (λ As. Heard φ b v₀ w (atom As j)) (sym (f .atoms)) (subst (λ n. Heard φ b v₀ w (atom (atomsOf bs) n)) e new)
     pick o old new j q (inr p) = λ y. o .above _ (old j p y)
 
 -- distances by the neighbours in that graph
 pub settles-by : {es bs : List ℕ} (b : Bool) (v : List ℤ) (side : Side) (sets : List ℕ) (A : Atom) (source : ℕ) (d : List ℕ) → ((kind : Kind) → side ≡ settling kind b)
-    → Neighbours (edgesOf es) (graphOf side (trueIn v)) sets → Walked sets source d → source ≡ A .from → (φ : PlanFile) → HasTables es bs v φ → Settling (φ .edges) v A b d
-settles-by {es} b v side sets A source d e n w q φ f = rw (f .edges, ← q, ← e (A .kind)) (w (edgesOf es) (graphOf side (trueIn v)) inside n)
-  where
-    inside : Inside (edgesOf es)
-    inside x m =
-        let g = f .ranged .edge x (subst (λ l. List·Memᴰ x l) (sym (f .edges)) m) in
-        let k = f .ranged .nodes in
-        (omega (arith, g .from-in), omega (arith, g .to-in))
+    → Inside (edgesOf es) → Neighbours (edgesOf es) (graphOf side (trueIn v)) sets → Walked sets source d → source ≡ A .from → (φ : PlanFile) → HasTables es bs v φ → Settling (φ .edges) v A b d
+settles-by {es} b v side sets A source d e i n w q φ f = rw (f .edges, ← q, ← e (A .kind)) (w (edgesOf es) (graphOf side (trueIn v)) i n)
 
 -- both verdicts, one behind the other: what is settled at first stays settled
 pub looks-both : {es bs : List ℕ} (u v w : List ℤ) (a r : Step) → Looked es bs true u v a → Looked es bs false v w r → AllLooked es bs u w (andThen a r)
 looks-both u v w a r x y φ f =
     let p = x φ f in
-    looks-then φ ((b : Bool) → AllHeard φ b u w) u v w (f .shape) a r p (y φ (has-on f (p .onward .shape))) (λ o h k b. pick (p .onward .above) o h k b)
+    looks-then φ (BothHeard φ u w) u v w (f .shape) a r p (y φ (has-on f (p .onward .shape))) (λ o h k b. pick (p .onward .above) o h k b)
   where
-    pick : trueIn u ⊆ trueIn v → Onward φ v w → AllHeard φ true u v → AllHeard φ false v w → (b : Bool) → AllHeard φ b u w
+    pick : trueIn u ⊆ trueIn v → Onward φ v w → AllHeard φ true u v → AllHeard φ false v w → BothHeard φ u w
     pick sub o h k true A m z = o .above _ (h A m z)
     pick sub o h k false A m z = k A m (settles-mono φ (trueIn u) (trueIn v) sub A false z)

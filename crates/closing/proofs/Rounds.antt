@@ -11,7 +11,7 @@ use lib.Dec.{T, T-not, not-T}
 use Rattle.plan.specs.Meaning.{Edge, Atom, PlanFile, on, off, value, trueIn, under, over, edge}
 use Rattle.plan.specs.Ranged.{Ranged}
 use Rattle.plan.specs.Closing.{Settles, unit, settled, Obeys}
-use Rattle.plan.specs.Search.{Assigned, opens, nothing, Closes}
+use Rattle.plan.specs.Search.{Assigned, Closes}
 use Rattle.plan.specs.Tables.{edgesOf}
 use Rattle.plan.proofs.Exists.{step-done}
 use Rattle.plan.proofs.Tables.{edges-most}
@@ -22,9 +22,9 @@ use Rattle.unit.specs.Onward.{Onward}
 use Rattle.unit.specs.Queue.{BeginsWith}
 use Rattle.unit.proofs.Steps.{onward-then, onward-fewer}
 use Rattle.closing.specs.Closed.{Looks}
-use Rattle.closing.specs.Atoms.{AllHeard}
+use Rattle.closing.specs.Atoms.{BothHeard}
 use Rattle.closing.specs.Rounds.{SameEdges, ClausesQuiet, AtomsQuiet, Round}
-use Rattle.closing.specs.declared.Step.the-variants.{Clash, Set, Still}
+use Rattle.closing.specs.declared.Step.the-variants.{Set, Still}
 
 -- with the same edges the same is settled of an atom
 settles-same : (b : Bool) (φ : PlanFile) → Ranged φ → (v w : List ℤ) → SameEdges (φ .edges) v w → (A : Atom) → Settles φ (trueIn w) A b → Settles φ (trueIn v) A b
@@ -56,12 +56,12 @@ same-copy es v r w p b s e m =
 
 -- a round, from v by the atoms to u and by the clauses to w
 module _ (φ : PlanFile) (ok : Ranged φ) (v u : List ℤ) where
-  pub round-still : ClausesQuiet φ v → Looks φ ((b : Bool) → AllHeard φ b v u) v u Still → Round φ v u Still
+  pub round-still : ClausesQuiet φ v → Looks φ (BothHeard φ v u) v u Still → Round φ v u Still
   round-still q x =
       let e = sym (x .tells .0) in
-      record { onward = x .onward; tells = (subst (ClausesQuiet φ) e q, subst (λ z. (b : Bool) → AllHeard φ b z u) e (x .tells .1)) }
+      record { onward = x .onward; tells = (subst (ClausesQuiet φ) e q, subst (λ z. BothHeard φ z u) e (x .tells .1)) }
 
-  module _ (w : List ℤ) (x : Looks φ ((b : Bool) → AllHeard φ b v u) v u Set) (o : Onward φ u w) (q : ClausesQuiet φ w) where
+  module _ (w : List ℤ) (x : Looks φ (BothHeard φ v u) v u Set) (o : Onward φ u w) (q : ClausesQuiet φ w) where
     pub round-set : Round φ v w Set
     round-set = record { onward = onward-then φ v u w (x .onward) o; tells = (omega (arith, x .tells .0, onward-fewer φ u w (x .onward .shape) o), q) }
 

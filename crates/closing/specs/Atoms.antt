@@ -58,6 +58,9 @@ Heard φ b v w A = Settles φ (trueIn v) A b → T (trueIn w (literalOf b (A .va
 abbrev pub AllHeard : PlanFile → Bool → List ℤ → List ℤ → Type 0
 AllHeard φ b v w = (A : Atom) → List·Memᴰ A (φ .atoms) → Heard φ b v w A
 
+abbrev pub BothHeard : PlanFile → List ℤ → List ℤ → Type 0
+BothHeard φ v w = (b : Bool) → AllHeard φ b v w
+
 -- One atom, by the distances in a graph of an assignment below v.
 abbrev pub Told : Bool → Atom → List ℕ → List ℤ → List ℤ → Step → Type 0
 Told b A d v w r = (φ : PlanFile) → Ranged φ → Assigned (φ .variables) v → List·Memᴰ A (φ .atoms)
@@ -68,4 +71,4 @@ abbrev pub Looked : List ℕ → List ℕ → Bool → List ℤ → List ℤ →
 Looked es bs b v w r = (φ : PlanFile) → HasTables es bs v φ → Looks φ (AllHeard φ b v w) v w r
 
 abbrev pub AllLooked : List ℕ → List ℕ → List ℤ → List ℤ → Step → Type 0
-AllLooked es bs v w r = (φ : PlanFile) → HasTables es bs v φ → Looks φ ((b : Bool) → AllHeard φ b v w) v w r
+AllLooked es bs v w r = (φ : PlanFile) → HasTables es bs v φ → Looks φ (BothHeard φ v w) v w r

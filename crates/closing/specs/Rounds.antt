@@ -10,7 +10,7 @@ use Rattle.plan.specs.Meaning.{Edge, PlanFile, value, trueIn}
 use Rattle.plan.specs.Tables.{edgesOf}
 use Rattle.unit.specs.Clauses.{AllQuiet}
 use Rattle.closing.specs.Closed.{Moves}
-use Rattle.closing.specs.Atoms.{AllHeard}
+use Rattle.closing.specs.Atoms.{BothHeard}
 use Rattle.closing.specs.declared.Step.{Step}
 
 -- No edge's variable changed from v to w, where the answer is true.
@@ -26,7 +26,7 @@ abbrev pub ClausesQuiet : PlanFile → List ℤ → Type 0
 ClausesQuiet φ a = AllQuiet (trueIn a) (φ .clauses)
 
 abbrev pub AtomsQuiet : PlanFile → List ℤ → Type 0
-AtomsQuiet φ a = (b : Bool) → AllHeard φ b a a
+AtomsQuiet φ a = BothHeard φ a a
 
 -- One round: a clash, or more to do with fewer open variables, or all is quiet.
 abbrev pub Round : PlanFile → List ℤ → List ℤ → Step → Type 0

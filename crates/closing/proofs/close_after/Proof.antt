@@ -1,21 +1,18 @@
 -- `closing::close_after`: what the clauses give at first, then rounds, each with fewer open variables, until one is still.
 use mathlib.Core.Path.{_≡_, sym, _∙_, subst}
-use mathlib.Core.Bool.{Bool, true, false}
 use mathlib.Core.List.{List}
 use borrow.Author.Needs.{needs}
 use lib.IntN.{ℤ}
-use lib.ListN.{length}
 use mir.Facts.{toZ-ofZ}
 use Rattle.plan.specs.Meaning.{PlanFile}
 use Rattle.plan.specs.Search.{opens, nothing, found}
 use Rattle.plan.specs.Tables.{planOf}
 use Rattle.unit.specs.Onward.{Onward}
-use Rattle.unit.specs.Clauses.{HasClauses, Ends}
 use Rattle.unit.proofs.Steps.{onward-none, onward-then}
 use Rattle.closing.specs.Rounds.{ClausesQuiet, Round}
 use Rattle.closing.specs.declared.Step.{Step}
 use Rattle.closing.specs.declared.Step.the-variants.{Clash, Set, Still}
-use Rattle.closing.proofs.Lending.{lent-ready, lent-has-clauses}
+use Rattle.closing.proofs.Lending.{lent-ready, passed-on, passed-clash, passed-quiet}
 use Rattle.closing.proofs.Rounds.{all-quiet}
 use Rattle.closing.proofs.close_after.Statement.{statement}
 use Rattle.closing.proofs.close_after.Tie as tie
@@ -29,10 +26,7 @@ abbrev μ-loop : tie.MeasureT-loop
 propagate-requires : tie.Need-propagate-requires Inv-loop μ-loop
 propagate-requires c κs =
     let b = c .before .before .before in
-    let t = b .args in (
-      lent-ready (t .plan) (t .edges .now) (t .atoms .now) (t .clauses .now) (b .pre .0) (t .values .now) (b .pre .1 .1 .0),
-      (b .pre .1 .0, rw (toZ-ofZ (b .fits .tried)) (b .pre .1 .1 .1)),
-    )
+    (lent-ready (b .pre .0) (b .pre .1 .1 .0), (b .pre .1 .0, rw (toZ-ofZ (b .fits .tried)) (b .pre .1 .1 .1)))
 
 -- after what the clauses give at first
 module _ (c : tie.After-propagate Inv-loop μ-loop) where
@@ -48,20 +42,20 @@ module _ (c : tie.After-propagate Inv-loop μ-loop) where
   abbrev passed : List ℤ
   passed = c .propagate .last .1 .1 .1 .0
 
-  has : HasClauses (length given) (begin .args .clauses .now) whole
-  has = lent-has-clauses (begin .args .plan) (begin .args .edges .now) (begin .args .atoms .now) (begin .args .clauses .now) (begin .pre .0) given (begin .pre .1 .1 .0)
-
   onward : Onward whole given passed
-  onward = c .propagate .ensures .steps .onward whole has
-
-  ends : (b : Bool) → c .propagate .result ≡ b → Ends (begin .args .clauses .now) given passed b
-  ends b e = subst (λ r. Ends (begin .args .clauses .now) given passed r) e (c .propagate .ensures .ends)
+  onward = passed-on (begin .pre .0) (begin .pre .1 .1 .0) (c .propagate .ensures)
 
 returns : tie.Need-returns Inv-loop μ-loop
-returns c = let d = c .before .before in (onward d .shape, ends d true (c .if1 .taken) (whole d) (has d))
+returns c =
+    let d = c .before .before in
+    let b = begin d in
+    (onward d .shape, passed-clash (b .pre .0) (b .pre .1 .1 .0) (d .propagate .ensures) (c .if1 .taken))
 
 loop-holds : tie.Need-loop-holds Inv-loop μ-loop
-loop-holds c = let d = c .before .before in (onward-none (whole d) (passed d) (onward d .shape), ends d false (c .if1 .left))
+loop-holds c =
+    let d = c .before .before in
+    let b = begin d in
+    (onward-none (whole d) (passed d) (onward d .shape), passed-quiet (b .pre .0) (b .pre .1 .1 .0) (d .propagate .ensures) (c .if1 .left))
 
 round-requires : tie.Need-round-requires Inv-loop μ-loop
 round-requires c κs =

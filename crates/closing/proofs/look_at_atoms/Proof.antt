@@ -1,11 +1,11 @@
 -- `closing::look_at_atoms`: one verdict behind the other.
-use mathlib.Core.Path.{sym, _∙_, subst}
+use mathlib.Core.Path.{sym, subst}
 use mathlib.Core.List.{List}
 use borrow.Author.Needs.{needs}
 use lib.IntN.{ℤ}
 use Rattle.unit.specs.Onward.{Onward}
 use Rattle.walk.proofs.Truths.{so}
-use Rattle.closing.specs.Atoms.{Looked, AllLooked}
+use Rattle.closing.specs.Atoms.{AllLooked}
 use Rattle.closing.proofs.Looking.{ready-on, looks-clash, looks-both}
 use Rattle.closing.proofs.look_at_atoms.Statement.{statement}
 use Rattle.closing.proofs.look_at_atoms.Tie as tie

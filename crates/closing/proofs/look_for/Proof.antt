@@ -1,15 +1,14 @@
 -- `closing::look_for`: the atoms before the place are heard, and the distances are those from the source in the graph that settles the verdict.
-use mathlib.Core.Path.{_≡_, refl, sym, ap, _∙_, subst}
+use mathlib.Core.Path.{_≡_, sym, ap, _∙_, subst}
 use mathlib.Core.Logic.{⊎-elim}
 use mathlib.Core.List.{List}
 use Prim.Native.Nat.{ℕ, _+_, _-_, _≤_, _<_}
 use native.Mathlib.Omega.{arith}
 use borrow.Author.Needs.{needs}
 use lib.IntN.{ℤ}
-use lib.ListN.{length}
 use Rattle.plan.specs.Meaning.{Atom, atom}
 use Rattle.plan.specs.Places.{First}
-use Rattle.plan.specs.Tables.{atomsOf, atomOf}
+use Rattle.plan.specs.Tables.{atomsOf}
 use Rattle.walk.specs.Hopping.{Walked}
 use Rattle.walk.proofs.Truths.{so}
 use Rattle.unit.specs.Onward.{Onward}
@@ -123,7 +122,8 @@ module _ (c : tie.Joined2 Inv-loop μ-loop) where
   walked : Walked (sets (turn seen) .neighbours .result) (c .if2 .source) (c .if2 .distances)
   walked =
       let n = sets (turn seen) .neighbours .result in
-      ⊎-elim (λ w. walked-as n _ _ _ _ (w .4 ∙ sym (w .2 .ensures)) (w .5) (w .3 .ensures)) (λ w. walked-as n _ _ _ _ (w .1) (w .2) (turn seen .loop .inv .1)) (c .if2 .came)
+      ⊎-elim (λ w. walked-as n _ _ _ _ (w .4 ∙ sym (w .2 .ensures)) (w .5) (w .3 .ensures))
+      (λ w. walked-as n _ _ _ _ (w .1) (w .2) (turn seen .loop .inv .1)) (c .if2 .came)
 
   source-is : c .if2 .source ≡ this seen .from
   source-is = ⊎-elim (λ w. w .4 ∙ from-is seen) (λ w. w .1 ∙ sym (w .0 .left) ∙ from-is seen) (c .if2 .came)
@@ -155,14 +155,17 @@ module _ (c : tie.After-is-clash Inv-loop μ-loop) where
       let r = look .look-at .result in
       subst (λ z. Sweeps (b .args .edges .now) (table its) (b .args .holds) (given (found n)) after (its .loop .at + 1) z) (sym (c .before .and-then .ensures))
       (sweep-one (b .args .holds) (given (found n)) (its .loop .values) after (b .args .count) (its .loop .at) d (its .loop .step) r (b .pre .long) (seen joined .before .loop-test .taken)
-      (settles-by (b .args .holds) (given (found n)) (n .before .settling-side .result) (n .neighbours .result) (this (seen joined)) (joined .if2 .source) d (n .before .settling-side .ensures) (n .neighbours .ensures) (walked joined) (source-is joined))
+      (settles-by (b .args .holds) (given (found n)) (n .before .settling-side .result) (n .neighbours .result) (this (seen joined)) (joined .if2 .source) d
+      (n .before .settling-side .ensures) (ready-inside (b .pre)) (n .neighbours .ensures) (walked joined) (source-is joined))
       (subst (λ A. Told (b .args .holds) A d (its .loop .values) after r) (seen joined .atom-at2 .ensures) (look .look-at .ensures)) (its .loop .inv .2))
 
   kept : Onward (begun its .pre .file) (given (found (sets its))) after
   kept = swept (begun its .pre .file) (begun its .pre .has) .onward
 
 returns-2 : tie.Need-returns-2 Inv-loop μ-loop
-returns-2 c = λ φ f. let d = c .before in looks-clash φ (given (found (sets (its d)))) (after d) (d .before .and-then .result) (so (d .is-clash .ensures) (c .if3 .taken)) (swept d φ f)
+returns-2 c = λ φ f.
+    let d = c .before in
+    looks-clash φ (given (found (sets (its d)))) (after d) (d .before .and-then .result) (so (d .is-clash .ensures) (c .if3 .taken)) (swept d φ f)
 
 next-to-say-requires-2 : tie.Need-next-to-say-requires-2 Inv-loop μ-loop
 next-to-say-requires-2 c κs =
@@ -174,7 +177,8 @@ loop-again c =
     let d = c .before .before .before in
     let n = c .next-to-say2 in
     let b = begun (its d) in
-    (n .ensures .inside, walked (joined d), sweep-past (b .args .holds) (given (found (sets (its d)))) (after d) (its d .loop .at + 1) (n .result) (d .before .and-then .result) (n .ensures .before) (swept d))
+    let v₀ = given (found (sets (its d))) in
+    (n .ensures .inside, walked (joined d), sweep-past (b .args .holds) v₀ (after d) (its d .loop .at + 1) (n .result) (d .before .and-then .result) (n .ensures .before) (swept d))
 
 returns-3 : tie.Need-returns-3 Inv-loop μ-loop
 returns-3 c =

@@ -1,24 +1,22 @@
 -- `closing::round`: where the look at the atoms changed nothing, or no edge is other than before it, all that the atoms settle is there.
-use mathlib.Core.Path.{_≡_, refl, sym, _∙_, subst}
-use mathlib.Core.Bool.{Bool, true, false}
+use mathlib.Core.Path.{_≡_, sym, subst}
+use mathlib.Core.Bool.{true, false}
 use mathlib.Core.List.{List}
 use borrow.Author.Needs.{needs}
 use lib.IntN.{ℤ}
-use lib.ListN.{length}
 use Rattle.plan.specs.Meaning.{PlanFile}
 use Rattle.plan.specs.Search.{Assigned, nothing}
 use Rattle.plan.specs.Tables.{planOf}
 use Rattle.walk.proofs.Lending.{lent-placed}
 use Rattle.unit.specs.Onward.{Onward}
-use Rattle.unit.specs.Clauses.{Ready, HasClauses, Ends}
 use Rattle.unit.specs.Queue.{BeginsWith, Since}
 use Rattle.unit.proofs.Steps.{onward-then}
 use Rattle.closing.specs.Closed.{Looks}
-use Rattle.closing.specs.Atoms.{AllHeard}
-use Rattle.closing.specs.Rounds.{Unchanged}
+use Rattle.closing.specs.Atoms.{BothHeard}
+use Rattle.closing.specs.Rounds.{Unchanged, ClausesQuiet}
 use Rattle.closing.specs.declared.Step.{Step}
 use Rattle.closing.specs.declared.Step.the-variants.{Clash, Set, Still}
-use Rattle.closing.proofs.Lending.{lent-ready, lent-tables, lent-has-clauses}
+use Rattle.closing.proofs.Lending.{lent-ready, lent-tables, passed-on, passed-clash, passed-quiet}
 use Rattle.closing.proofs.Rounds.{same-copy, round-still, round-set, round-same}
 use Rattle.closing.proofs.round.Statement.{statement}
 use Rattle.closing.proofs.round.Tie as tie
@@ -34,9 +32,6 @@ module _ (b : tie.Start) where
   shape : Assigned (whole .variables) given
   shape = b .pre .1 .1 .0
 
-  ready : (a : List ℤ) → Assigned (whole .variables) a → Ready (b .args .clauses .now) a
-  ready a s = lent-ready (b .args .plan) (b .args .edges .now) (b .args .atoms .now) (b .args .clauses .now) (b .pre .0) a s
-
 -- after the look at the atoms
 module _ (c : tie.After-look-at-atoms) where
   abbrev begin : tie.Start
@@ -51,11 +46,11 @@ module _ (c : tie.After-look-at-atoms) where
   begins : BeginsWith copy (given begin)
   begins = c .before .before .copy-of .ensures
 
-  looks : (r : Step) → c .look-at-atoms .result ≡ r → Looks (whole begin) ((b : Bool) → AllHeard (whole begin) b (given begin) between) (given begin) between r
-  looks r e =
-      let a = begin .args in
-      subst (λ z. Looks (whole begin) ((b : Bool) → AllHeard (whole begin) b (given begin) between) (given begin) between z) e
-      (c .look-at-atoms .ensures (whole begin) (lent-tables (a .plan) (a .edges .now) (a .atoms .now) (a .clauses .now) (begin .pre .0) (given begin) (shape begin)))
+  abbrev Look : Step → Type 0
+  Look r = Looks (whole begin) (BothHeard (whole begin) (given begin) between) (given begin) between r
+
+  looks : (r : Step) → c .look-at-atoms .result ≡ r → Look r
+  looks r e = subst Look e (c .look-at-atoms .ensures (whole begin) (lent-tables (begin .pre .0) (shape begin)))
 
 returns : tie.Need-returns
 returns c = let x = looks (c .before .before .before) Clash (c .enum-told .given .1) in record { onward = x .onward; tells = x .tells }
@@ -70,7 +65,7 @@ module _ (c : tie.After-enum-told3) where
   abbrev look : tie.After-look-at-atoms
   look = c .before .before .before
 
-  set : Looks (whole (begin look)) ((b : Bool) → AllHeard (whole (begin look)) b (given (begin look)) (between look)) (given (begin look)) (between look) Set
+  set : Look look Set
   set = looks look Set (c .enum-told3 .given .1)
 
   since : Since (begin look .args .clauses .now) (copy look) (between look)
@@ -88,7 +83,7 @@ propagate-changes-requires : tie.Need-propagate-changes-requires
 propagate-changes-requires c κs =
     let d = c .before .before in
     let b = begin (look d) in
-    (ready b (between (look d)) (set d .onward .shape), (b .pre .1 .0, since d))
+    (lent-ready (b .pre .0) (set d .onward .shape), (b .pre .1 .0, since d))
 
 -- after what the clauses give
 module _ (c : tie.After-propagate-changes) where
@@ -101,25 +96,25 @@ module _ (c : tie.After-propagate-changes) where
   abbrev after : List ℤ
   after = c .propagate-changes .last .1 .1 .1 .0
 
-  has : HasClauses (length (between (look more))) (first .args .clauses .now) (whole first)
-  has = lent-has-clauses (first .args .plan) (first .args .edges .now) (first .args .atoms .now) (first .args .clauses .now) (first .pre .0) (between (look more)) (set more .onward .shape)
-
   next : Onward (whole first) (between (look more)) after
-  next = c .propagate-changes .ensures .steps .onward (whole first) has
+  next = passed-on (first .pre .0) (set more .onward .shape) (c .propagate-changes .ensures)
 
-  ends : (b : Bool) → c .propagate-changes .result ≡ b → Ends (first .args .clauses .now) (between (look more)) after b
-  ends b e = subst (λ r. Ends (first .args .clauses .now) (between (look more)) after r) e (c .propagate-changes .ensures .ends)
+  quiet : c .propagate-changes .result ≡ false → ClausesQuiet (whole first) after
+  quiet e = passed-quiet (first .pre .0) (set more .onward .shape) (c .propagate-changes .ensures) e
 
 returns-3 : tie.Need-returns-3
 returns-3 c =
     let d = c .before .before in
     let x = set (more d) .onward in
-    record { onward = onward-then (whole (first d)) (given (first d)) (between (look (more d))) (after d) x (next d); tells = x .back nothing (ends d true (c .if1 .taken) (whole (first d)) (has d)) }
+    record {
+      onward = onward-then (whole (first d)) (given (first d)) (between (look (more d))) (after d) x (next d);
+      tells = x .back nothing (passed-clash (first d .pre .0) (x .shape) (d .propagate-changes .ensures) (c .if1 .taken));
+    }
 
 same-edges-requires : tie.Need-same-edges-requires
 same-edges-requires c κs =
     let d = c .before .before .before .before in
-    (ready (first d) (after d) (next d .shape) .small, lent-placed (first d .pre .0) _ (next d .shape .long))
+    (lent-ready (first d .pre .0) (next d .shape) .small, lent-placed (first d .pre .0) _ (next d .shape .long))
 
 -- no clash
 module _ (c : tie.After-same-edges) where
@@ -136,18 +131,20 @@ returns-4 : tie.Need-returns-4
 returns-4 c =
     let s = c .before in
     let d = passed s in
-    round-same (whole (first d)) (first d .pre .0 .ranged) (given (first d)) (between (look (more d))) (after d) (set (more d)) (next d) (ends d false (s .before .before .before .if1 .left)) (same s (c .if2 .taken))
+    round-same (whole (first d)) (first d .pre .0 .ranged) (given (first d)) (between (look (more d))) (after d) (set (more d)) (next d)
+    (quiet d (s .before .before .before .if1 .left)) (same s (c .if2 .taken))
 
 returns-5 : tie.Need-returns-5
 returns-5 c =
     let s = c .before in
     let d = passed s in
-    round-set (whole (first d)) (first d .pre .0 .ranged) (given (first d)) (between (look (more d))) (after d) (set (more d)) (next d) (ends d false (s .before .before .before .if1 .left))
+    round-set (whole (first d)) (first d .pre .0 .ranged) (given (first d)) (between (look (more d))) (after d) (set (more d)) (next d)
+    (quiet d (s .before .before .before .if1 .left))
 
 pub round-spec : {M : Type 1} → statement M
 round-spec =
     tie.close
-    (tie.spec (λ c κs. let b = c .before .before .before in ready b (given b) (shape b) .small)
-    (λ c κs. let b = c .before .before .before .before .before in record { file = whole b; has = lent-tables (b .args .plan) (b .args .edges .now) (b .args .atoms .now) (b .args .clauses .now) (b .pre .0) (given b) (shape b); long = b .pre .0 .atoms })
+    (tie.spec (λ c κs. let b = c .before .before .before in lent-ready (b .pre .0) (shape b) .small)
+    (λ c κs. let b = c .before .before .before .before .before in record { file = whole b; has = lent-tables (b .pre .0) (shape b); long = b .pre .0 .atoms })
     (λ c. search needs) (λ c. search needs) returns (λ c. search needs) (λ c. search needs) returns-2 (λ c. search needs) propagate-changes-requires (λ c. search needs) returns-3
     same-edges-requires (λ c. search needs) returns-4 (λ c. search needs) returns-5)
