@@ -5,3 +5,4 @@ pub mod Tabled
 pub mod Rows
 pub mod Stepping
 pub mod Whole
+pub mod Determined

@@ -1,8 +1,11 @@
 -- One store, of the number itself.
 use native.Mathlib.Omega.{arith}
 use borrow.Author.Needs.{needs}
-use lib.IntN.{pos}
-use Rattle.clauses.proofs.Fronts.{put-one}
+use mathlib.Core.List.{[], _∷_}
+use mathlib.Core.Path.{ap}
+use mir.Syntax.{w32}
+use mir.Val.{toZ}
+use Rattle.clauses.proofs.Fronts.{put-as, put-one}
 use Rattle.clauses.proofs.Numbers.{kept-on}
 use Rattle.clauses.proofs.parts.put_on.Statement.{statement}
 use Rattle.clauses.proofs.parts.put_on.Tie as tie
@@ -16,4 +19,4 @@ put-on-spec =
     (λ c. search needs)
     (λ c. search needs)
     (λ c. search needs)
-    (λ c. rw (kept-on (c .args .variable) (c .pre .1)) (put-one (pos (c .args .variable)) (c .args .at) (c .args .out .now) (omega arith))))
+    (λ c. put-as (ap (λ x. x ∷ []) (kept-on (c .args .variable) (c .pre .1))) (put-one (toZ w32 (c .args .variable)) (c .args .at) (c .args .out .now) (omega arith))))
