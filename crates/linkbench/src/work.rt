@@ -7,6 +7,7 @@ use plan::Atom;
 use plan::Clause;
 use plan::Edge;
 use plan::Plan;
+use plan::Side;
 use search::Found;
 use std::num::wrapping_add_u64;
 
@@ -95,7 +96,7 @@ fn sets_of(plan: Plan, edges: &[u16], atoms: &[u16], clauses: &[i16]) -> [u64; 6
     let open = Assignment::all_open();
     let values = open.values;
     let n = plan::wide(plan.variables);
-    walk::neighbours(edges, &values[..n], true)
+    walk::neighbours(edges, &values[..n], Side::Over)
 }
 
 // The node behind this one; 0 behind the last.
@@ -121,9 +122,9 @@ pub fn walk(plan: Plan, edges: &[u16], atoms: &[u16], clauses: &[i16], repetitio
     let mut source = 0;
     let mut left = repetitions;
     while left > 0 {
-        let hops = walk::walk(&sets, source);
+        let distances = walk::walk(&sets, source);
         source = following(source, plan);
-        sum = wrapping_add_u64(sum, hops.counts[source] as u64);
+        sum = wrapping_add_u64(sum, walk::distance(&distances, source));
         left -= 1;
     }
     sum

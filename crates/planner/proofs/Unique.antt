@@ -10,6 +10,7 @@ use lib.ListN.{length, drop}
 use lib.IntN.{ℤ}
 use lib.Dec.{leb}
 use borrow.Author.Tests.{le-leb, lt-leb}
+use Rattle.plan.specs.Buffers.{Answered}
 use Rattle.plan.specs.Meaning.{PlanFile, atom, trueIn}
 use Rattle.plan.specs.Buffers.{Kept}
 use Rattle.plan.specs.Judging as judging
@@ -41,7 +42,7 @@ use Rattle.planner.specs.Refusing.{Met, refusal, clear, Names, Refuses, 
 use Rattle.planner.specs.Read.{Counts, ReadCase, ReadIs}
 use Rattle.planner.specs.Judge.{JudgeCase, JudgeIs}
 use Rattle.planner.specs.Close.{CloseCase, ClosedIs}
-use Rattle.planner.specs.Reason.{ReasonCase, Given, ReasonedIs}
+use Rattle.planner.specs.Reason.{ReasonCase, ReasonedIs}
 use Rattle.planner.specs.Search.{allOpen, SearchCase, SearchedIs}
 use Rattle.planner.specs.WriteClauses.{WriteCase, WrittenIs}
 
@@ -162,7 +163,7 @@ module _ (a : List ℤ) (k : ℕ) (before : List ℤ) where
   toldReason neither = (reason.Open, before)
 
   module _ (make : ℕ → ReasonAnswer) (r after : List ℤ) where
-    written-out : (n : ℕ) → Given r before after n → _≡_ {A = ReasonAnswer × List ℤ} (make n, after) (toldClause make r (leb (length r) (length before)))
+    written-out : (n : ℕ) → Answered r before after n → _≡_ {A = ReasonAnswer × List ℤ} (make n, after) (toldClause make r (leb (length r) (length before)))
     written-out n g =
         let e = g .counted in
         let f = g .wrote in

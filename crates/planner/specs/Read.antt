@@ -21,9 +21,11 @@ pub record Counts (φ : PlanFile) (p : Plan) : Type 0 where
   pub clauses : length (φ .clauses) ≡ p .clauses
   pub literals : literals (φ .clauses) ≡ p .literals
 
+-- The counts: where nothing is refused.
 abbrev pub ReadCase : PlanFile → ReadAnswer → Type 0
 ReadCase φ (Refused y) = ⊥
 ReadCase φ (Accepted p) = Counts φ p
 
+-- The statement, by what reading meets.
 abbrev pub ReadIs : List ℕ → ReadAnswer → Type 0
 ReadIs file r = By (afterReading (readPlan file) (λ φ. clear φ)) (λ n v. Refuses Refused n v r) (λ φ. ReadCase φ r)

@@ -25,10 +25,12 @@ pub record WrittenOut (φ : PlanFile) (before after : List ℤ) (variables claus
   pub length-is : numbers ≡ length (flat (written φ))
   pub wrote : Wrote (flat (written φ)) before after
 
+-- The clauses are written out: where nothing is refused.
 abbrev pub WriteCase : PlanFile → List ℤ → List ℤ → WriteAnswer → Type 0
 WriteCase φ before after (Refused y) = ⊥
 WriteCase φ before after (Written a b c) = WrittenOut φ before after a b c
 
+-- The statement by what is met; of the call: by what reading and then the checks meet.
 abbrev pub WriteBy : Met → List ℤ → List ℤ → WriteAnswer → Type 0
 WriteBy m before after r = KeepingBy m Refused (λ φ. WriteCase φ before after r) before after r
 

@@ -17,7 +17,7 @@ use Rattle.plan.specs.declared.Refusal.the-variants.{NoRoom}
 use Rattle.planner.specs.declared.ReasonAnswer.{ReasonAnswer}
 use Rattle.planner.specs.declared.ReasonAnswer.the-variants.{Refused, Holds, Fails, Open}
 use Rattle.planner.specs.Refusing.{clear, requireValues, requireAtom, isValue}
-use Rattle.planner.specs.Reason.{reasonChecks, Given, ReasonCase}
+use Rattle.planner.specs.Reason.{reasonChecks, ReasonCase}
 use Rattle.planner.proofs.Stating.{meets, named, length-fails, length-holds, values-fail, values-hold, atom-zero, atom-beyond, atom-holds, assigned-of}
 use Rattle.planner.proofs.reason_lent.Statement.{statement}
 use Rattle.planner.proofs.reason_lent.Tie as tie
