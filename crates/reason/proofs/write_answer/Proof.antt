@@ -7,9 +7,8 @@ use borrow.Author.Needs.{needs}
 use native.Mathlib.Omega.{arith}
 use lib.IntN.{ℤ}
 use lib.ListN.{length}
-use Rattle.plan.specs.Buffers.{Wrote}
+use Rattle.plan.specs.Buffers.{Wrote, Answered}
 use Rattle.plan.specs.Meaning.{literalOf}
-use Rattle.plan.specs.Buffers.{Answered}
 use Rattle.reason.specs.Marks.{clauseOf}
 use Rattle.reason.proofs.Listing.{clause-length, premises-most, appends-then}
 use Rattle.reason.proofs.write_answer.Statement.{statement}

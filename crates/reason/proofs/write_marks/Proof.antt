@@ -1,6 +1,5 @@
 -- `reason::write_marks`: after v variables the literals of those that are marked are appended. The measure is the variables that are left.
 use mathlib.Core.Path.{_≡_, refl, sym, subst, _∙_}
-use mathlib.Core.Bool.{false}
 use mathlib.Core.List.{map}
 use Prim.Native.Nat.{suc, _+_, _-_, _≤_}
 use native.Mathlib.Omega.{arith}
