@@ -5,21 +5,20 @@ use mathlib.Core.Path.{_≡_, refl, sym, ap, _∙_, subst, subst₂}
 use mathlib.Core.Logic.{_⊎_, ⊎-elim}
 use mathlib.Core.Bool.{_&&_}
 use mathlib.Core.List.{List}
-use Prim.Native.Nat.{ℕ, zero, suc, _+_, _-_, _^_, _<_, _≤_}
+use Prim.Native.Nat.{ℕ, zero, suc, _+_, _*_, _-_, _/_, _%_, _^_, _<_, _≤_}
 use native.Mathlib.Decide.{decLt}
 use native.Mathlib.Omega.{arith}
 use lib.Bits.{bitAnd, bitOr, or-lt, and-le-r}
-use lib.ListN.{length, getD, set, replicate}
-use lib.Seq.{getD-set-same, getD-set-other}
+use lib.ListN.{length, getD, set, replicate, List·getD-eq-default}
 use lib.Arith.{lt-one}
 use lib.Pow.{pow-lt}
 use lib.Dec.{T, T-not, not-T}
 use Rattle.plan.specs.Meaning.{Edge, Graph, Leads, Walk, stay, hop, Distance, oneHop}
 use Rattle.plan.proofs.Bools.{T?, or-cases, or-left, or-right, and-both, and-left, and-right}
 use Rattle.plan.proofs.Walks.{its-in}
-use Rattle.walk.specs.Hopping.{bit, Inside, Neighbours, DistanceTable}
-use Rattle.walk.specs.Front.{size, Visited}
-use Rattle.walk.proofs.Sets.{zeros, bit-inside, bit-one, bit-or, bit-and, bit-not, size-or, size-one, size-le}
+use Rattle.walk.specs.Hopping.{bit, Inside, Neighbours, reachedIn, DistanceTable}
+use Rattle.walk.specs.Front.{size, Visited, Laid}
+use Rattle.walk.proofs.Sets.{zeros, bit-empty, bit-inside, bit-one, bit-or, bit-and, bit-not, bit-byte, size-or, size-one, size-le}
 
 -- A walk from s over the sets of neighbours.
 pub data Trail (sets : List ℕ) (s : ℕ) : ℕ → ℕ → Type 0 where
@@ -40,7 +39,7 @@ pub record Bfs (sets : List ℕ) (s reached : ℕ) (counts queue : List ℕ) (ta
       → T (bit w reached) × (getD counts w 0 ≤ suc (getD counts (getD queue i 0) 0))
   pub many : tail ≡ size reached
   pub fits : reached < 2 ^ 64
-  pub numbered : length counts ≡ 65
+  pub numbered : length counts ≡ 72
   pub places : length queue ≡ 64
 
 pub tail-le : {sets : List ℕ} {s reached : ℕ} {counts queue : List ℕ} {tail head : ℕ} → Bfs sets s reached counts queue tail head → tail ≤ 64
@@ -56,16 +55,16 @@ module _ {sets : List ℕ} {s reached : ℕ} {counts queue : List ℕ} {tail hea
 
 -- ---- where the walk begins
 
-pub begin : (sets : List ℕ) (s reached : ℕ) → s < 64 → reached ≡ 2 ^ s → Bfs sets s reached (replicate 65 0) (set (replicate 64 0) 0 s) 1 0
+pub begin : (sets : List ℕ) (s reached : ℕ) → s < 64 → reached ≡ 2 ^ s → Bfs sets s reached (replicate 72 0) (set (replicate 64 0) 0 s) 1 0
 begin sets s reached l e = record {
   source = there;
-  begins = zeros 65 s;
-  sound = λ w t. subst₂ (λ (x k : ℕ). Trail sets s x k) (sym (only w t)) (sym (zeros 65 w)) start;
+  begins = zeros 72 s;
+  sound = λ w t. subst₂ (λ (x k : ℕ). Trail sets s x k) (sym (only w t)) (sym (zeros 72 w)) start;
   queued = λ w t. (0, omega arith, sym (only w t));
   seen = λ i m. rw (lt-one m) there;
-  low = λ i m. omega (arith, zeros 65 (getD (set (replicate 64 0) 0 s) i 0));
-  rising = λ i k a b. omega (arith, zeros 65 (getD (set (replicate 64 0) 0 s) i 0));
-  near = λ _ w t. omega (arith, zeros 65 w);
+  low = λ i m. omega (arith, zeros 72 (getD (set (replicate 64 0) 0 s) i 0));
+  rising = λ i k a b. omega (arith, zeros 72 (getD (set (replicate 64 0) 0 s) i 0));
+  near = λ _ w t. omega (arith, zeros 72 w);
   closed = λ i w m l t. absurd (omega arith);
   many = omega (arith, ap size e, size-one 64 s l);
   fits = omega (arith, e, pow-lt l);
@@ -216,21 +215,30 @@ module _ (sets : List ℕ) (s : ℕ) (below : s < 64) (es : List Edge) (g : Grap
         let c = b .closed (p .0) w (p .1) (l .1) (subst (λ (x : ℕ). T (bit w (getD sets x 0))) (sym (p .2)) (n .exact u w (l .0) (l .1) .1 d)) in
         (c .0, omega (arith, e, c .1, o .1, ap (λ (x : ℕ). getD counts x 0) (p .2)))
 
-    -- the set goes behind the counts
-    set-is : getD (set counts 64 reached) 64 0 ≡ reached
-    set-is = getD-set-same counts 64 reached 0 (omega (arith, b .numbered))
+    -- the set stands behind the counts
+    module _ (d : List ℕ) (l : Laid reached counts d) where
+      set-is : (w : ℕ) → w < 64 → reachedIn d w ≡ bit w reached
+      set-is w h =
+          let e : w / 8 * 8 + w % 8 ≡ w = omega arith in
+          ap (bit (w % 8)) (l .bytes (w / 8) (omega arith)) ∙ bit-byte (w / 8) (w % 8) reached (omega arith) ∙ ap (λ (k : ℕ). bit k reached) e
 
-    count-is : (w : ℕ) → T (bit w reached) → getD (set counts 64 reached) w 0 ≡ getD counts w 0
-    count-is w t = let l = bit-inside 64 w reached (b .fits) t in getD-set-other counts 64 w reached 0 (λ e. omega arith)
+      -- no place of the table is beyond the set's bytes
+      in-table : (w : ℕ) → T (reachedIn d w) → w < 64
+      in-table w t = elim (decLt w 64) [
+        | yes y ↦ y
+        | no n ↦ absurd (bit-empty (w % 8) (subst (λ (x : ℕ). T (bit (w % 8) x)) (List·getD-eq-default d 0 (omega (arith, l .long, b .numbered))) t))
+      ]
 
-    pub table : DistanceTable oneHop es g s (set counts 64 reached)
-    table = record {
-      number = λ w k. (
-        (λ t.
-            let o = subst (λ (x : ℕ). T (bit w x)) set-is (t .0) in
-            subst (λ (x : ℕ). Distance oneHop es g s w x) (sym (count-is w o) ∙ t .1) (record { walk = walked (b .sound w o); fewest = λ j r. reach r .1 })),
-        (λ d.
-            let o = reach (d .walk) in
-            (subst (λ (x : ℕ). T (bit w x)) (sym set-is) (o .0), omega (arith, count-is w (o .0), o .1, d .fewest (getD counts w 0) (walked (b .sound w (o .0)))))),
-      );
-    }
+      pub table : DistanceTable oneHop es g s d
+      table = record {
+        number = λ w k. (
+          (λ t.
+              let h = in-table w (t .0) in
+              let o = subst T (set-is w h) (t .0) in
+              subst (λ (x : ℕ). Distance oneHop es g s w x) (sym (l .same w h) ∙ t .1) (record { walk = walked (b .sound w o); fewest = λ j r. reach r .1 })),
+          (λ e.
+              let o = reach (e .walk) in
+              let h = bit-inside 64 w reached (b .fits) (o .0) in
+              (subst T (sym (set-is w h)) (o .0), omega (arith, l .same w h, o .1, e .fewest (getD counts w 0) (walked (b .sound w (o .0)))))),
+        );
+      }

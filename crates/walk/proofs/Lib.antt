@@ -4,3 +4,4 @@ pub mod Visits
 pub mod Breadth
 pub mod Truths
 pub mod Lending
+pub mod Bytes

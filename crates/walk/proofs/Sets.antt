@@ -13,7 +13,7 @@ use lib.ListN.{getD, replicate}
 use lib.Dec.{T, eqb, eqb→eq}
 use lib.Pow.{pow-lt}
 use Rattle.walk.specs.Hopping.{bit}
-use Rattle.walk.specs.Front.{sizeIn}
+use Rattle.walk.specs.Front.{sizeIn, byteAt}
 
 twice : (i : ℕ) → 2 ^ suc i ≡ 2 * 2 ^ i
 twice i = pow-suc 2 i ∙ omega arith
@@ -201,3 +201,31 @@ pub zeros : (n i : ℕ) → _≡_ {A = ℕ} (getD (replicate n 0) i 0) 0
 zeros zero i = refl
 zeros (suc n) zero = refl
 zeros (suc n) (suc i) = zeros n i
+
+-- ---- a set by its bytes
+
+same-odd : (a b : ℕ) → a % 2 ≡ b % 2 → eqb (a % 2) 1 ≡ eqb (b % 2) 1
+same-odd a b e = ap (λ (y : ℕ). eqb y 1) e
+
+low-bits : (r x : ℕ) → r < 8 → bit r (x % 256) ≡ bit r x
+unfolding bit
+low-bits zero x l = same-odd (x % 256) (x) (omega arith)
+low-bits (suc zero) x l = same-odd (x % 256 / 2) (x / 2) (omega arith)
+low-bits (suc (suc zero)) x l = same-odd (x % 256 / 2 / 2) (x / 2 / 2) (omega arith)
+low-bits (suc (suc (suc zero))) x l = same-odd (x % 256 / 2 / 2 / 2) (x / 2 / 2 / 2) (omega arith)
+low-bits (suc (suc (suc (suc zero)))) x l = same-odd (x % 256 / 2 / 2 / 2 / 2) (x / 2 / 2 / 2 / 2) (omega arith)
+low-bits (suc (suc (suc (suc (suc zero))))) x l = same-odd (x % 256 / 2 / 2 / 2 / 2 / 2) (x / 2 / 2 / 2 / 2 / 2) (omega arith)
+low-bits (suc (suc (suc (suc (suc (suc zero)))))) x l = same-odd (x % 256 / 2 / 2 / 2 / 2 / 2 / 2) (x / 2 / 2 / 2 / 2 / 2 / 2) (omega arith)
+low-bits (suc (suc (suc (suc (suc (suc (suc zero))))))) x l = same-odd (x % 256 / 2 / 2 / 2 / 2 / 2 / 2 / 2) (x / 2 / 2 / 2 / 2 / 2 / 2 / 2) (omega arith)
+low-bits (suc (suc (suc (suc (suc (suc (suc (suc r)))))))) x l = absurd (omega arith)
+
+eight-on : (k x : ℕ) → bit (suc (suc (suc (suc (suc (suc (suc (suc k)))))))) x ≡ bit k (x / 256)
+unfolding bit
+eight-on k x = let e : x / 2 / 2 / 2 / 2 / 2 / 2 / 2 / 2 ≡ x / 256 = omega arith in ap (bit k) e
+
+pub bit-byte : (q r x : ℕ) → r < 8 → bit r (byteAt q x) ≡ bit (q * 8 + r) x
+unfolding byteAt
+bit-byte zero r x l = let e : r ≡ 0 * 8 + r = omega arith in low-bits r x l ∙ ap (λ (k : ℕ). bit k x) e
+bit-byte (suc q) r x l =
+    let e : suc (suc (suc (suc (suc (suc (suc (suc (q * 8 + r)))))))) ≡ suc q * 8 + r = omega arith in
+    bit-byte q r (x / 256) l ∙ sym (eight-on (q * 8 + r) x) ∙ ap (λ (k : ℕ). bit k x) e

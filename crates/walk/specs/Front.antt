@@ -36,3 +36,14 @@ pub record Visited (x c tail : ℕ) (counts queue : List ℕ) (end : ℕ) (count
   pub other : (w : ℕ) → (T (bit w x) → ⊥) → getD counts′ w 0 ≡ getD counts w 0
   pub numbered : length counts′ ≡ length counts
   pub places : length queue′ ≡ length queue
+
+-- The bytes of a set, the lowest nodes first.
+unfoldable pub byteAt : ℕ → ℕ → ℕ
+byteAt zero x = x % 256
+byteAt (suc i) x = byteAt i (x / 256)
+
+-- The set x stands behind the first 64 places, which are as they were.
+pub record Laid (x : ℕ) (d d′ : List ℕ) : Type 0 where
+  pub long : length d′ ≡ length d
+  pub same : (w : ℕ) → w < 64 → getD d′ w 0 ≡ getD d w 0
+  pub bytes : (i : ℕ) → i < 8 → getD d′ (64 + i) 0 ≡ byteAt i x

@@ -4,7 +4,7 @@ use mathlib.Core.Path.{_≡_}
 use mathlib.Core.Logic.{_↔_}
 use mathlib.Core.Bool.{Bool, true, false}
 use mathlib.Core.List.{List, List·Memᴰ}
-use Prim.Native.Nat.{ℕ, zero, suc, _%_, _/_, _<_, _≤_}
+use Prim.Native.Nat.{ℕ, zero, suc, _+_, _%_, _/_, _<_, _≤_}
 use lib.ListN.{getD}
 use lib.IntN.{ℤ}
 use lib.Dec.{T, eqb}
@@ -29,9 +29,10 @@ Placed es variables = (e : Edge) → List·Memᴰ e es → (1 ≤ e .variable) �
 pub record Neighbours (es : List Edge) (g : Graph) (sets : List ℕ) : Type 0 where
   pub exact : (u w : ℕ) → u < 64 → w < 64 → T (bit w (getD sets u 0)) ↔ Leads es g u w
 
--- The distances from one node as they stand in a table: that of node w at place w, and at place 64 the set of the nodes that are reached.
+-- The distances from one node as they stand in a table: that of node w at place w, and from place 64 on the set of the nodes that are
+-- reached, eight nodes to a byte.
 abbrev pub reachedIn : List ℕ → ℕ → Bool
-reachedIn d w = bit w (getD d 64 0)
+reachedIn d w = bit (w % 8) (getD d (64 + w / 8) 0)
 
 abbrev pub distanceIn : List ℕ → ℕ → ℕ
 distanceIn d w = getD d w 0

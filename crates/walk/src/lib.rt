@@ -12,11 +12,11 @@ ghost use lib.Dec.{T};
 ghost use Rattle.plan.specs.Meaning.{graphOf, trueIn, Allows};
 ghost use Rattle.plan.specs.Tables.{edgesOf, edgeOf, atomOf};
 ghost use Rattle.walk.specs.Hopping.{bit, Inside, Placed, Neighbours, reachedIn, distanceIn, Walked, Truth, SettledBy};
-ghost use Rattle.walk.specs.Front.{UpTo, size, Visited};
+ghost use Rattle.walk.specs.Front.{UpTo, size, Visited, Laid};
 
-// The distances from one node: that of node w at place w, and at place 64 the set of the nodes that are reached, one bit for each.
+// The distances from one node: that of node w at place w, and behind them the set of the nodes that are reached, eight to a byte.
 // What stands at a node that is not reached says nothing.
-pub type Distances = [u64; 65];
+pub type Distances = [u8; 72];
 
 const REACHED: usize = 64;
 
@@ -76,8 +76,8 @@ pub fn neighbours(edges: &[u16], values: &[i8], side: Side) -> [u64; 64]
 }
 
 // Gives each node of the set `new` its count and a place in the queue, whose first `tail` places are used. Returns the queue's new end.
-fn visit(new: u64, count: u64, tail: usize, counts: &mut Distances, queue: &mut [u8; 64]) -> usize
-    requires { ⌜ length (now counts) ≡ 65 ⌝ }
+fn visit(new: u64, count: u8, tail: usize, counts: &mut Distances, queue: &mut [u8; 64]) -> usize
+    requires { ⌜ length (now counts) ≡ 72 ⌝ }
     requires { ⌜ length (now queue) ≡ 64 ⌝ }
     requires { ⌜ tail + size new ≤ 64 ⌝ }
     ensures { λ r. ⌜ Visited new count tail (now (counts .entry)) (now (queue .entry)) r (now (counts .exit)) (now (queue .exit)) ⌝ }
@@ -94,13 +94,27 @@ fn visit(new: u64, count: u64, tail: usize, counts: &mut Distances, queue: &mut 
     end
 }
 
+// Puts the set of the nodes that are reached behind the distances.
+fn put_reached(reached: u64, distances: &mut Distances)
+    requires { ⌜ length (now distances) ≡ 72 ⌝ }
+    ensures { λ _. ⌜ Laid reached (now (distances .entry)) (now (distances .exit)) ⌝ }
+{
+    let mut rest = reached;
+    let mut i = 0;
+    while i < 8 {
+        distances[REACHED + i] = (rest % 256) as u8;
+        rest = rest / 256;
+        i += 1;
+    }
+}
+
 // The hops from `source` to every node, breadth first.
 pub fn walk(neighbours: &[u64; 64], source: usize) -> Distances
     requires { ⌜ source < 64 ⌝ }
     ensures { λ r. ⌜ Walked (now (neighbours .entry)) source r ⌝ }
 {
     let mut reached = 1u64 << source;
-    let mut counts: Distances = [0; 65];
+    let mut counts: Distances = [0; 72];
     let mut queue: [u8; 64] = [0; 64];
     queue[0] = source as u8;
     let mut tail = 1;
@@ -113,8 +127,14 @@ pub fn walk(neighbours: &[u64; 64], source: usize) -> Distances
         reached = reached | new;
         head += 1;
     }
-    counts[REACHED] = reached;
+    put_reached(reached, &mut counts);
     counts
+}
+
+fn from_byte(x: u8) -> u64
+    ensures { λ r. ⌜ r ≡ x ⌝ }
+{
+    x as u64
 }
 
 fn widened(bound: u16) -> u64
@@ -128,7 +148,8 @@ pub fn is_reached(distances: &Distances, node: usize) -> bool
     requires { ⌜ node < 64 ⌝ }
     ensures { λ r. ⌜ r ≡ reachedIn (now (distances .entry)) node ⌝ }
 {
-    has(distances[REACHED], node)
+    let at = REACHED + node / 8;
+    has(from_byte(distances[at]), node % 8)
 }
 
 // The distance of a node that is reached.
@@ -136,7 +157,7 @@ pub fn distance(distances: &Distances, node: usize) -> u64
     requires { ⌜ node < 64 ⌝ }
     ensures { λ r. ⌜ r ≡ distanceIn (now (distances .entry)) node ⌝ }
 {
-    distances[node]
+    from_byte(distances[node])
 }
 
 // Whether a kind allows a distance, with this bound.

@@ -15,7 +15,7 @@ use Rattle.walk.proofs.visit.Tie as tie
 
 abbrev Inv-loop : tie.InvT-loop
 Inv-loop new count tail counts₀ queue₀ rest₀ end₀ counts queue rest end =
-    (end + size rest ≤ 64) × (rest < 2 ^ 64) × (length counts ≡ 65) × (length queue ≡ 64)
+    (end + size rest ≤ 64) × (rest < 2 ^ 64) × (length counts ≡ 72) × (length queue ≡ 64)
     × ((e : ℕ) (C Q : List ℕ) → Visited rest count end counts queue e C Q → Visited new count tail counts₀ queue₀ e C Q)
 
 abbrev μ-loop : tie.MeasureT-loop
@@ -40,9 +40,6 @@ loop-holds c = (c .pre .1 .1, c .fits .new .fits, c .pre .0, c .pre .1 .0, λ e 
 
 cast-node : tie.Need-cast-node Inv-loop μ-loop
 cast-node c = omega (arith, inside c)
-
-mul-counts : tie.Need-mul-counts Inv-loop μ-loop
-mul-counts c = omega (arith, inside c)
 
 element-write-counts : tie.Need-element-write-counts Inv-loop μ-loop
 element-write-counts c = omega (arith, inside c)
@@ -87,7 +84,6 @@ visit-spec =
     μ-loop
     loop-holds
     cast-node
-    mul-counts
     element-write-counts
     cast-queue
     element-write-queue

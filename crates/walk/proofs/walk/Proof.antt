@@ -39,9 +39,6 @@ mul-new c = omega (arith, node-in (c .before .loop .inv .1) (c .loop-test .taken
 element-copy-out-new : tie.Need-element-copy-out-new Inv-loop μ-loop
 element-copy-out-new c = node-in (c .before .loop .inv .1) (c .loop-test .taken)
 
-mul-count : tie.Need-mul-count Inv-loop μ-loop
-mul-count c = omega (arith, node-in (c .before .before .loop .inv .1) (c .before .loop-test .taken))
-
 array-read-count : tie.Need-array-read-count Inv-loop μ-loop
 array-read-count c = omega (arith, node-in (c .before .before .loop .inv .1) (c .before .loop-test .taken))
 
@@ -65,13 +62,14 @@ loop-again c =
     let v = c .visit .ensures in
     (omega (arith, v .ends), turn _ _ _ _ _ _ _ b (c .before .before .before .before .loop-test .taken) _ _ refl refl _ _ _ _ (add-one _) v)
 
-array-write-counts : tie.Need-array-write-counts Inv-loop μ-loop
-array-write-counts c = omega (arith, c .before .loop .inv .1 .numbered)
+put-reached-requires : tie.Need-put-reached-requires Inv-loop μ-loop
+put-reached-requires c κs = c .before .before .loop .inv .1 .numbered
 
 returns : tie.Need-returns Inv-loop μ-loop
 returns c = λ es g inside n.
-    let e : c .before .loop .head ≡ c .before .loop .tail = omega arith in
-    table _ _ (c .before .before .pre) es g inside n _ _ _ _ (rw e at (c .before .loop .inv .1))
+    let l = c .before .before .before in
+    let e : l .loop .head ≡ l .loop .tail = omega arith in
+    table _ _ (l .before .pre) es g inside n _ _ _ _ (rw e at (l .loop .inv .1)) _ (c .put-reached .ensures)
 
 pub walk-spec : {M : Type 1} → statement M
 walk-spec =
@@ -87,12 +85,11 @@ walk-spec =
     cast-node
     mul-new
     element-copy-out-new
-    mul-count
     array-read-count
     add-count
     visit-requires
     add-head
     loop-less
     loop-again
-    array-write-counts
+    put-reached-requires
     returns)
