@@ -103,6 +103,22 @@ module _ (φ : PlanFile) (ok : Ranged φ) (A : Atom) (m : List·Memᴰ A (φ .at
         (record { onward = onward-add φ ok v s l gives (g .2); tells = (fewer-add φ ok v s l gives (g .1) (g .2), λ y. has) })
     looks-gets Still g = subst (λ z. There z Still) (sym (g .0)) (record { onward = onward-none φ v s; tells = (refl, λ y. g .1) })
 
+-- a step behind another
+pub then-clash : (a r : Step) → r ≡ Clash → andThen a r ≡ Clash
+then-clash Clash r e = refl
+then-clash Set r e = ap (andThen Set) e
+then-clash Still r e = e
+
+pub then-set : (a r : Step) → (T (isClash a) → ⊥) → r ≡ Set → andThen a r ≡ Set
+then-set Clash r n e = absurd (n tt)
+then-set Set r n e = ap (andThen Set) e
+then-set Still r n e = e
+
+pub then-still : (a r : Step) → r ≡ Still → andThen a r ≡ a
+then-still Clash r e = refl
+then-still Set r e = ap (andThen Set) e
+then-still Still r e = e
+
 -- looks behind one another
 pub looks-then : (φ : PlanFile) {P Q : Type 0} (R : Type 0) (u v w : List ℤ) → Assigned (φ .variables) u → (a r : Step) → Looks φ P u v a → Looks φ Q v w r
     → (Onward φ v w → P → Q → R) → Looks φ R u w (andThen a r)

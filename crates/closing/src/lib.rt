@@ -115,7 +115,7 @@ fn look_at(atom: Atom, distances: &Distances, holds: bool, values: &mut [i8]) ->
     give(values, given(atom, holds))
 }
 
-// Asks all atoms for a verdict, but for those whose literal is there. Atoms of one source behind one another share a walk.
+// Asks the atoms for a verdict. Atoms of one source behind one another share a walk; none is made for an atom whose literal is there.
 fn look_for(edges: &[u16], atoms: &[u16], count: usize, holds: bool, values: &mut [i8]) -> Step
     requires { ⌜ Ready (now edges) (now atoms) count (now values) ⌝ }
     ensures { λ r. ⌜ Looked (now (edges .entry)) (now (atoms .entry)) holds (now (values .entry)) (now (values .exit)) r ⌝ }
@@ -131,15 +131,24 @@ fn look_for(edges: &[u16], atoms: &[u16], count: usize, holds: bool, values: &mu
     let mut step = Step::Still;
     while at < count {
         let atom = plan::atom_at(atoms, at);
+        at += 1;
         if atom.from != source {
+            if is_said(atom, holds, values) {
+                continue;
+            }
             source = atom.from;
             distances = walk::walk(&sets, plan::wide(source));
         }
-        step = and_then(step, look_at(atom, &distances, holds, values));
-        if is_clash(step) {
-            return step;
+        let told = look_at(atom, &distances, holds, values);
+        match told {
+            Step::Clash => {
+                return Step::Clash;
+            }
+            Step::Set => {
+                step = Step::Set;
+            }
+            Step::Still => {}
         }
-        at = next_to_say(atoms, count, at + 1, holds, values);
     }
     step
 }

@@ -1,26 +1,31 @@
--- `closing::look_for`: the atoms before the place are heard, and the distances are those from the source in the graph that settles the verdict.
-use mathlib.Core.Path.{_≡_, sym, ap, _∙_, subst}
+-- `closing::look_for`: the atoms before the place are heard without a clash, and the distances are those from the source in the graph that settles the verdict.
+use mathlib.Core.Path.{_≡_, refl, sym, ap, _∙_, subst}
 use mathlib.Core.Logic.{⊎-elim}
+use mathlib.Core.Bool.{true}
 use mathlib.Core.List.{List}
 use Prim.Native.Nat.{ℕ, _+_, _-_, _≤_, _<_}
 use native.Mathlib.Omega.{arith}
 use borrow.Author.Needs.{needs}
 use lib.IntN.{ℤ}
-use Rattle.plan.specs.Meaning.{Atom, atom}
+use lib.Dec.{T}
+use Rattle.plan.specs.Meaning.{Atom, atom, literalOf, trueIn}
 use Rattle.plan.specs.Places.{First}
-use Rattle.plan.specs.Tables.{atomsOf}
+use Rattle.plan.specs.Tables.{atomOf, atomsOf}
+use Rattle.plan.proofs.Places.{without-none, without-more}
 use Rattle.walk.specs.Hopping.{Walked}
 use Rattle.walk.proofs.Truths.{so}
 use Rattle.unit.specs.Onward.{Onward}
+use Rattle.closing.specs.Closed.{isClash, andThen}
 use Rattle.closing.specs.Atoms.{AtomReady, Ready, Unsaid, Told}
-use Rattle.closing.specs.declared.Step.the-variants.{Still}
-use Rattle.closing.proofs.Looking.{ready-on, ready-atoms, ready-inside, ready-placed, looks-clash, Sweeps, sweep-start, sweep-past, sweep-one, sweep-end, settles-by}
+use Rattle.closing.specs.declared.Step.{Step}
+use Rattle.closing.specs.declared.Step.the-variants.{Clash, Set, Still}
+use Rattle.closing.proofs.Looking.{ready-on, ready-atoms, ready-inside, ready-placed, then-clash, then-set, then-still, looks-clash, Sweeps, sweep-start, sweep-past, sweep-one, sweep-end, settles-by}
 use Rattle.closing.proofs.look_for.Statement.{statement}
 use Rattle.closing.proofs.look_for.Tie as tie
 
 abbrev Inv-loop : tie.InvT-loop
 Inv-loop edges atoms count holds values₀ at₀ sets source₀ distances₀ step₀ values at source distances step =
-    (at ≤ count) × Walked sets source distances × Sweeps edges atoms holds values₀ values at step
+    (at ≤ count) × Walked sets source distances × (T (isClash step) → ⊥) × Sweeps edges atoms holds values₀ values at step
 
 abbrev μ-loop : tie.MeasureT-loop
 μ-loop edges atoms count holds values₀ at₀ sets source₀ distances₀ step₀ values at source distances step = count - at
@@ -73,7 +78,7 @@ walk-requires c κs =
 loop-holds : tie.Need-loop-holds Inv-loop μ-loop
 loop-holds c =
     let n = c .before .before .before .before in
-    (first (found n) .inside, subst (λ s. Walked (n .neighbours .result) s (c .walk .result)) (c .before .wide .ensures) (c .walk .ensures), start (found n))
+    (first (found n) .inside, subst (λ s. Walked (n .neighbours .result) s (c .walk .result)) (c .before .wide .ensures) (c .walk .ensures), (λ t. t), start (found n))
 
 -- a turn of the loop
 module _ (c : tie.At-loop Inv-loop μ-loop) where
@@ -87,7 +92,7 @@ module _ (c : tie.At-loop Inv-loop μ-loop) where
   table = begun .args .atoms .now
 
   so-far : Onward (begun .pre .file) (given (found sets)) (c .loop .values)
-  so-far = c .loop .inv .2 (begun .pre .file) (begun .pre .has) .onward
+  so-far = c .loop .inv .3 (begun .pre .file) (begun .pre .has) .onward
 
   ready : Ready (begun .args .edges .now) table (begun .args .count) (c .loop .values)
   ready = ready-on (begun .pre) so-far
@@ -103,12 +108,42 @@ module _ (c : tie.After-atom-at2 Inv-loop μ-loop) where
   from-is : c .atom-at2 .result .from ≡ this .from
   from-is = ap (λ (A : Atom). A .from) (c .atom-at2 .ensures)
 
+  its-place : turn .loop .at < begun turn .args .count
+  its-place = c .before .loop-test .taken
+
   this-ready : AtomReady (turn .loop .values) this
-  this-ready = ready-atoms (ready turn) .each (turn .loop .at) (c .before .loop-test .taken)
+  this-ready = ready-atoms (ready turn) .each (turn .loop .at) its-place
+
+  atom-ready : AtomReady (turn .loop .values) (atomOf (c .atom-at2 .result))
+  atom-ready = subst (AtomReady (turn .loop .values)) (sym (c .atom-at2 .ensures)) this-ready
+
+  less : begun turn .args .count - (turn .loop .at + 1) < begun turn .args .count - turn .loop .at
+  less = omega (arith, its-place)
+
+-- it is passed by where its literal is there
+module _ (c : tie.After-is-said Inv-loop μ-loop) where
+  abbrev asked : tie.After-atom-at2 Inv-loop μ-loop
+  asked = c .before .before .before .before
+
+  there : c .is-said .result ≡ true → T (trueIn (turn asked .loop .values) (literalOf (begun (turn asked) .args .holds) (this asked .variable)))
+  there = so (c .is-said .ensures ∙ ap (λ (A : Atom). trueIn (turn asked .loop .values) (literalOf (begun (turn asked) .args .holds) (A .variable))) (asked .atom-at2 .ensures))
+
+loop-again : tie.Need-loop-again Inv-loop μ-loop
+loop-again c =
+    let a = asked (c .before) in
+    let t = turn a in
+    let i = t .loop .inv in
+    let b = begun t in (
+      omega (arith, its-place a),
+      i .1,
+      i .2,
+      sweep-past (b .args .holds) (given (found (sets t))) (t .loop .values) (t .loop .at) (t .loop .at + 1) (t .loop .step)
+          (without-more (Unsaid (table t) (b .args .holds) (t .loop .values)) (without-none _ _) (λ n. n (there (c .before) (c .if3 .taken)))) (i .3),
+    )
 
 walk-requires-2 : tie.Need-walk-requires-2 Inv-loop μ-loop
 walk-requires-2 c κs =
-    let a = c .before .before .before .before in
+    let a = asked (c .before .before .before) in
     omega (arith, c .wide2 .ensures, from-is a, this-ready a .fits .from-in)
 
 -- the distances from its source
@@ -122,86 +157,79 @@ module _ (c : tie.Joined2 Inv-loop μ-loop) where
   walked : Walked (sets (turn seen) .neighbours .result) (c .if2 .source) (c .if2 .distances)
   walked =
       let n = sets (turn seen) .neighbours .result in
-      ⊎-elim (λ w. walked-as n _ _ _ _ (w .4 ∙ sym (w .2 .ensures)) (w .5) (w .3 .ensures))
+      ⊎-elim (λ w. walked-as n _ _ _ _ (w .7 ∙ sym (w .5 .ensures)) (w .8) (w .6 .ensures))
       (λ w. walked-as n _ _ _ _ (w .1) (w .2) (turn seen .loop .inv .1)) (c .if2 .came)
 
   source-is : c .if2 .source ≡ this seen .from
-  source-is = ⊎-elim (λ w. w .4 ∙ from-is seen) (λ w. w .1 ∙ sym (w .0 .left) ∙ from-is seen) (c .if2 .came)
-
-look-at-requires : tie.Need-look-at-requires Inv-loop μ-loop
-look-at-requires c κs =
-    let a = seen (c .before .before) in
-    subst (AtomReady (turn a .loop .values)) (sym (a .atom-at2 .ensures)) (this-ready a)
+  source-is = ⊎-elim (λ w. w .7 ∙ from-is seen) (λ w. w .1 ∙ sym (w .0 .left) ∙ from-is seen) (c .if2 .came)
 
 -- the look at it
-module _ (c : tie.After-is-clash Inv-loop μ-loop) where
-  abbrev look : tie.After-look-at Inv-loop μ-loop
-  look = c .before .before .before
-
+module _ (c : tie.After-look-at Inv-loop μ-loop) where
   abbrev joined : tie.Joined2 Inv-loop μ-loop
-  joined = look .before .before .before
+  joined = c .before .before .before
 
   abbrev its : tie.At-loop Inv-loop μ-loop
   its = turn (seen joined)
 
   abbrev after : List ℤ
-  after = look .look-at .last .1 .1 .1 .0
+  after = c .look-at .last .1 .1 .1 .0
 
-  swept : Sweeps (begun its .args .edges .now) (table its) (begun its .args .holds) (given (found (sets its))) after (its .loop .at + 1) (c .before .and-then .result)
-  swept =
+  swept : (z : Step) → andThen (its .loop .step) (c .look-at .result) ≡ z
+      → Sweeps (begun its .args .edges .now) (table its) (begun its .args .holds) (given (found (sets its))) after (its .loop .at + 1) z
+  swept z e =
       let n = sets its in
       let b = begun its in
       let d = joined .if2 .distances in
-      let r = look .look-at .result in
-      subst (λ z. Sweeps (b .args .edges .now) (table its) (b .args .holds) (given (found n)) after (its .loop .at + 1) z) (sym (c .before .and-then .ensures))
-      (sweep-one (b .args .holds) (given (found n)) (its .loop .values) after (b .args .count) (its .loop .at) d (its .loop .step) r (b .pre .long) (seen joined .before .loop-test .taken)
+      let r = c .look-at .result in
+      subst (λ z. Sweeps (b .args .edges .now) (table its) (b .args .holds) (given (found n)) after (its .loop .at + 1) z) e
+      (sweep-one (b .args .holds) (given (found n)) (its .loop .values) after (b .args .count) (its .loop .at) d (its .loop .step) r (b .pre .long) (its-place (seen joined))
       (settles-by (b .args .holds) (given (found n)) (n .before .settling-side .result) (n .neighbours .result) (this (seen joined)) (joined .if2 .source) d
       (n .before .settling-side .ensures) (ready-inside (b .pre)) (n .neighbours .ensures) (walked joined) (source-is joined))
-      (subst (λ A. Told (b .args .holds) A d (its .loop .values) after r) (seen joined .atom-at2 .ensures) (look .look-at .ensures)) (its .loop .inv .2))
+      (subst (λ A. Told (b .args .holds) A d (its .loop .values) after r) (seen joined .atom-at2 .ensures) (c .look-at .ensures)) (its .loop .inv .3))
 
   kept : Onward (begun its .pre .file) (given (found (sets its))) after
-  kept = swept (begun its .pre .file) (begun its .pre .has) .onward
+  kept = swept _ refl (begun its .pre .file) (begun its .pre .has) .onward
+
+  on : its .loop .at + 1 ≤ begun its .args .count
+  on = omega (arith, its-place (seen joined))
 
 returns-2 : tie.Need-returns-2 Inv-loop μ-loop
 returns-2 c = λ φ f.
-    let d = c .before in
-    looks-clash φ (given (found (sets (its d)))) (after d) (d .before .and-then .result) (so (d .is-clash .ensures) (c .if3 .taken)) (swept d φ f)
-
-next-to-say-requires-2 : tie.Need-next-to-say-requires-2 Inv-loop μ-loop
-next-to-say-requires-2 c κs =
-    let d = c .before .before in
-    (ready-atoms (ready-on (begun (its d) .pre) (kept d)), omega (arith, seen (joined d) .before .loop-test .taken))
-
-loop-again : tie.Need-loop-again Inv-loop μ-loop
-loop-again c =
     let d = c .before .before .before in
-    let n = c .next-to-say2 in
-    let b = begun (its d) in
-    let v₀ = given (found (sets (its d))) in
-    (n .ensures .inside, walked (joined d), sweep-past (b .args .holds) v₀ (after d) (its d .loop .at + 1) (n .result) (d .before .and-then .result) (n .ensures .before) (swept d))
+    looks-clash φ (given (found (sets (its d)))) (after d) Clash tt (swept d Clash (then-clash (its d .loop .step) _ (c .enum-told .given .1)) φ f)
+
+loop-again-2 : tie.Need-loop-again-2 Inv-loop μ-loop
+loop-again-2 c =
+    let d = c .before .before .before in
+    (on d, walked (joined d), (λ t. t), swept d Set (then-set (its d .loop .step) _ (its d .loop .inv .2) (c .enum-told2 .given .1)))
+
+loop-again-3 : tie.Need-loop-again-3 Inv-loop μ-loop
+loop-again-3 c =
+    let d = c .before .before .before in
+    (on d, walked (joined d), its d .loop .inv .2, swept d (its d .loop .step) (then-still (its d .loop .step) _ (c .enum-told3 .given .1)))
 
 returns-3 : tie.Need-returns-3 Inv-loop μ-loop
 returns-3 c =
     let t = c .before in
     let b = begun t in
-    sweep-end (b .args .holds) (given (found (sets t))) (t .loop .values) (b .args .count) (t .loop .at) (t .loop .step) (b .pre .long) (c .loop-test .left) (t .loop .inv .2)
+    sweep-end (b .args .holds) (given (found (sets t))) (t .loop .values) (b .args .count) (t .loop .at) (t .loop .step) (b .pre .long) (c .loop-test .left) (t .loop .inv .3)
 
 same-length-2 : tie.Need-same-length-2 Inv-loop μ-loop
-same-length-2 c = kept (c .before) .shape .long ∙ sym (begun (its (c .before)) .pre .has .shape .long)
+same-length-2 c = let d = c .before .before .before in kept d .shape .long ∙ sym (begun (its d) .pre .has .shape .long)
 
 same-length-3 : tie.Need-same-length-3 Inv-loop μ-loop
 same-length-3 c = so-far (c .before) .shape .long ∙ sym (begun (c .before) .pre .has .shape .long)
 
-loop-less : tie.Need-loop-less Inv-loop μ-loop
-loop-less c = let n = c .next-to-say2 .ensures in omega (arith, n .after, n .inside)
-
-add-next-to-say : tie.Need-add-next-to-say Inv-loop μ-loop
-add-next-to-say c = let h = seen (joined (c .before)) .before .loop-test .taken in let f = begun (its (c .before)) .fits .count in search needs
+add-at : tie.Need-add-at Inv-loop μ-loop
+add-at c = let h = its-place c in let f = begun (turn c) .fits .count in search needs
 
 pub look-for-spec : {M : Type 1} → statement M
 look-for-spec =
     tie.close
     (tie.spec
     Inv-loop μ-loop (λ c κs. (ready-atoms (c .before .before .before .pre), omega arith)) (λ c. search needs) returns (λ c κs. tt) neighbours-requires atom-at-requires (λ c κs. tt) walk-requires loop-holds
-    (λ c κs. omega (arith, begun (c .before) .pre .long, c .loop-test .taken)) (λ c κs. tt) walk-requires-2 look-at-requires (λ c κs. tt) (λ c κs. tt) same-length-2 returns-2
-    add-next-to-say next-to-say-requires-2 loop-less loop-again same-length-3 returns-3)
+    (λ c κs. omega (arith, begun (c .before) .pre .long, c .loop-test .taken)) add-at (λ c κs. atom-ready (c .before .before .before)) (λ c. less (asked (c .before))) loop-again (λ c κs. tt) walk-requires-2
+    (λ c κs. atom-ready (seen (c .before .before)))
+    (λ c. search needs) same-length-2 returns-2
+    (λ c. search needs) (λ c. less (seen (joined (c .before .before .before)))) loop-again-2
+    (λ c. search needs) (λ c. less (seen (joined (c .before .before .before)))) loop-again-3 same-length-3 returns-3)
