@@ -9,7 +9,7 @@ use native.Mathlib.Numerals.{add-one}
 use lib.IntN.{ℤ}
 use lib.ListN.{length, length-append}
 use Rattle.plan.specs.Written.{each}
-use Rattle.plan.proofs.Walks.{le-or-lt}
+use Rattle.plan.proofs.Lists.{le-or-lt}
 use Rattle.clauses.specs.Front.{Room, Put}
 use Rattle.clauses.proofs.Fronts.{put-none, put-as, put-length, put-then, room-rest}
 

@@ -5,4 +5,3 @@ pub mod Tabled
 pub mod Rows
 pub mod Stepping
 pub mod Whole
-pub mod Determined

@@ -2,14 +2,14 @@
 -- Assumes nothing.
 use mathlib.Core.Path.{_≡_, refl, sym, _∙_, ap, ap₂, subst}
 use mathlib.Core.List.{List, [], _∷_, _++_, append-assoc, append-nil}
-use Prim.Native.Nat.{ℕ, zero, suc, _+_, _-_, _≤_, _<_, min}
+use Prim.Native.Nat.{ℕ, zero, suc, _+_, _-_, _≤_, _<_}
 use native.Mathlib.Omega.{arith}
 use native.Mathlib.Numerals.{add-one}
 use lib.IntN.{ℤ}
 use lib.ListN.{length, take, length-take}
 use lib.Seq.{take-all}
 use Rattle.plan.specs.Meaning.{Edge, Atom, atom}
-use Rattle.plan.specs.Written.{each, flat, levels, levelsOf, blockVariables, blockClauses, blockNumbers, atomBlock, after, blocks, last}
+use Rattle.plan.specs.Written.{each, flat, levels, blockVariables, blockClauses, blockNumbers, atomBlock, after, blocks, last}
 use Rattle.encoding.specs.Counts.{total, InLimits}
 use Rattle.encoding.proofs.Each.{flat-append}
 use Rattle.encoding.proofs.Blocks.{last-ge}

@@ -22,7 +22,7 @@ use Rattle.plan.proofs.Add.{add-has}
 use Rattle.plan.proofs.Closing.{settles-mono}
 use Rattle.plan.proofs.Exists.{step-clash, literal-size, gives-range}
 use Rattle.plan.proofs.Tables.{atoms-length}
-use Rattle.plan.proofs.Walks.{le-or-lt, mem-at, at-mem}
+use Rattle.plan.proofs.Lists.{le-or-lt, mem-at, at-mem}
 use Rattle.walk.specs.Hopping.{Inside, Placed, Neighbours, Walked, Truth, Settling}
 use Rattle.unit.specs.Onward.{Onward}
 use Rattle.unit.proofs.Steps.{onward-none, onward-then, onward-fewer, onward-add, fewer-add}

@@ -16,7 +16,8 @@ use Rattle.plan.specs.Tables.{edgesOf}
 use Rattle.plan.proofs.Exists.{step-done}
 use Rattle.plan.proofs.Tables.{edges-most}
 use Rattle.plan.proofs.Values.{true-on, true-off, value-at}
-use Rattle.plan.proofs.Walks.{true-mono, at-mem}
+use Rattle.plan.proofs.Lists.{at-mem}
+use Rattle.plan.proofs.Walks.{true-mono}
 use Rattle.walk.specs.Hopping.{Placed}
 use Rattle.unit.specs.Onward.{Onward}
 use Rattle.unit.specs.Queue.{BeginsWith}

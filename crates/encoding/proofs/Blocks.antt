@@ -11,7 +11,7 @@ use lib.ListN.{length}
 use Rattle.plan.specs.Meaning.{Edge, Atom, Graph, edge}
 use Rattle.plan.specs.Ranged.{EndsFit}
 use Rattle.plan.specs.Written.{levels, blockVariables, atomBlock, after, blocks, last}
-use Rattle.plan.proofs.Walks.{le-or-lt}
+use Rattle.plan.proofs.Lists.{le-or-lt}
 use Rattle.encoding.proofs.Block.{Values, satisfied, split, block-says}
 use Rattle.encoding.proofs.Forced.{cond-true, cond-false, at, valueAt, says-iff}
 

@@ -10,14 +10,13 @@ use lib.IntN.{ℤ, pos, negsuc}
 use lib.Dec.{T}
 use lib.ListN.{length, getD, length-append, List·getD-append}
 use lib.Seq.{ext-getD, getD-append-add}
-use Rattle.plan.specs.Meaning.{Edge, Atom, PlanFile, Graph, edge, on, value, isOn, isOff, trueIn, under, Full, IsRight, IsPlan}
-use Rattle.plan.specs.Ranged.{LiteralFits, Ranged, maxBound}
+use Rattle.plan.specs.Meaning.{Atom, PlanFile, Graph, edge, on, value, isOn, isOff, trueIn, under, Full, IsRight, IsPlan}
+use Rattle.plan.specs.Ranged.{LiteralFits, Ranged}
 use Rattle.plan.specs.Written.{levels, blocks, written, lastVariable, Satisfies, ExactlyOne}
 use Rattle.plan.proofs.Bools.{tab, anyOf, allOf, any-some, some-any, all-each, each-all, T-same, tab-length, tab-at}
-use Rattle.plan.proofs.Walks.{le-or-lt}
+use Rattle.plan.proofs.Lists.{le-or-lt}
 use Rattle.plan.proofs.Levels.{isTrue?, true-iff}
 use Rattle.encoding.proofs.Block.{Values, signed, satisfied, split}
-use Rattle.encoding.proofs.Forced.{at}
 use Rattle.encoding.proofs.Blocks.{valueOf, Fixed, RightAt, blocks-iff}
 use Rattle.encoding.proofs.Literals.{All, Fit, edge-ends, variables-first, own-fits, written-fits}
 

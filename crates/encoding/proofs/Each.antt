@@ -11,7 +11,7 @@ use lib.IntN.{ℤ, pos}
 use lib.ListN.{length, length-append}
 use Rattle.plan.specs.Written.{each, flat}
 use Rattle.plan.proofs.Bools.{anyOf, allOf, or-cases, or-left, or-right, and-both, and-left, and-right}
-use Rattle.plan.proofs.Walks.{le-or-lt}
+use Rattle.plan.proofs.Lists.{le-or-lt}
 
 pub below-zero : {i : ℕ} → i < 0 → ⊥
 below-zero l = omega arith

@@ -12,7 +12,7 @@ use lib.ListN.{length, getD}
 use Rattle.plan.specs.Meaning.{Edge, Graph, edge}
 use Rattle.plan.specs.Written.{R, U, blockVariables}
 use Rattle.plan.proofs.Bools.{anyOf, T-same, any-some, some-any, tab-at}
-use Rattle.plan.proofs.Walks.{le-or-lt, mem-at, at-mem}
+use Rattle.plan.proofs.Lists.{le-or-lt, mem-at, at-mem}
 use Rattle.plan.proofs.Levels.{next, reached}
 use Rattle.encoding.proofs.Each.{some, some-same, some-iff}
 use Rattle.encoding.proofs.Block.{Values, Says}

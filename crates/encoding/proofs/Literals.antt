@@ -14,7 +14,7 @@ use Rattle.plan.specs.Tables.{clausesOf}
 use Rattle.plan.specs.Written.{each, flat, R, U, into, startClauses, edgeClauses, nodeClauses, levelClauses, endClauses, block, levels, blockVariables, atomBlock, after, blocks, last, written, lastVariable}
 use Rattle.plan.proofs.Signs.{natAbs-neg}
 use Rattle.plan.proofs.ClauseTable.{clause-at}
-use Rattle.plan.proofs.Walks.{mem-at}
+use Rattle.plan.proofs.Lists.{mem-at}
 use Rattle.encoding.proofs.Forced.{R-in, U-in}
 use Rattle.encoding.proofs.Blocks.{last-ge}
 

@@ -15,7 +15,7 @@ use Rattle.plan.specs.declared.Kind.the-variants.{Reaches, Within}
 use Rattle.plan.specs.Meaning.{Edge, Atom, PlanFile, edge, on, off}
 use Rattle.plan.specs.Ranged.{maxNodes, maxEdges, maxAtoms, literals, Ranged}
 use Rattle.plan.specs.Written.{each, flat, R, U, into, startClauses, edgeClauses, nodeClauses, levelClauses, endClauses, block, levelsOf, levels, blockVariables, blockClauses, blockNumbers, atomBlock, after, blocks, last, written, lastVariable}
-use Rattle.plan.proofs.Walks.{le-or-lt}
+use Rattle.plan.proofs.Lists.{le-or-lt}
 use Rattle.encoding.specs.Counts.{total, Counted, InLimits, mostBlockVariables, mostBlockClauses, mostBlockNumbers, mostVariables, mostClauses, mostNumbers}
 use Rattle.encoding.proofs.Each.{below-zero, flat-append, flat-each, sum, sum-same, sum-const, sum-add, sum-mul, sum-swap, length-each}
 use Rattle.encoding.proofs.Literals.{edge-ends}

@@ -289,10 +289,6 @@ sample = record {
   clauses = (pos 5 ∷ []) ∷ (negsuc 3 ∷ []) ∷ [];
 }
 
-pub sample-ranged : Ranged sample
-unfolding literals
-sample-ranged = ranged sample tt
-
 y : ℤ
 y = pos 1
 

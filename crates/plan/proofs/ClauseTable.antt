@@ -15,7 +15,7 @@ use Rattle.plan.specs.Written.{flat}
 use Rattle.plan.specs.Tables.{inFront, clausesOf, Lent}
 use Rattle.plan.specs.ClauseTable.{EndsAt, Ended, Table, End, BeginsAt, Begin, part, Stands, Around}
 use Rattle.plan.specs.declared.Plan.{Plan}
-use Rattle.plan.proofs.Walks.{le-or-lt, mem-at, at-mem}
+use Rattle.plan.proofs.Lists.{le-or-lt, mem-at, at-mem}
 use Rattle.plan.proofs.Places.{found-back, found-on, found-one, found-ahead}
 
 -- a clause, and what stands behind its 0

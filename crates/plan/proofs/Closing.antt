@@ -2,7 +2,7 @@
 -- Assumes nothing.
 use mathlib.Core.Path.{_≡_, subst}
 use mathlib.Core.Logic.{_⊎_, inl, inr, _↔_}
-use mathlib.Core.Bool.{Bool, true, false, not, _||_}
+use mathlib.Core.Bool.{Bool, true, false, not}
 use mathlib.Core.List.{List, List·Memᴰ}
 use Prim.Native.Nat.{ℕ, zero, suc, _≤_, _<_}
 use native.Mathlib.Omega.{arith}
@@ -12,7 +12,7 @@ use lib.Dec.{T, T-not, not-T}
 use Rattle.plan.specs.Meaning.{Edge, Atom, PlanFile, IsTrue, on, off, value, isOn, isOff, Literals, _⊆_, trueIn, add, under, over, Full, IsPlan}
 use Rattle.plan.specs.Ranged.{Ranged}
 use Rattle.plan.specs.Closing.{Settles, Gives, unit, settled, Obeys, Clash, both, all-false, Closing, Closed, Clashes}
-use Rattle.plan.proofs.Bools.{T?, T-same, any-or-none, or-cases, or-left, or-right}
+use Rattle.plan.proofs.Bools.{T?, T-same, any-or-none}
 use Rattle.plan.proofs.Walks.{true-mono}
 use Rattle.plan.proofs.Levels.{isTrue?, true-iff}
 
@@ -56,47 +56,6 @@ module _ (φ : PlanFile) where
 
   pub not-both : (G S : Literals) → Closed φ G S → Clashes φ G → ⊥
   not-both G S c f = c .free (f S (c .closing .given) (c .closing .obeys))
-
-  pub closing-mono : (G H S R : Literals) → G ⊆ H → Closing φ G S → Closing φ H R → S ⊆ R
-  closing-mono G H S R h c d = c .least R (λ l t. d .given l (h l t)) (d .obeys)
-
-  pub closing-again : (G S : Literals) → Closing φ G S → Closing φ S S
-  closing-again G S c = record { given = λ l t. t; obeys = c .obeys; least = λ R h o. h }
-
-  pub clashes-mono : (G H : Literals) → G ⊆ H → Clashes φ G → Clashes φ H
-  clashes-mono G H h f R g o = f R (λ l t. g l (h l t)) o
-
-  -- a set between the given and its closing has the same closing: so the closed set may be given in place of what it came from
-  pub closing-between : (G H S : Literals) → G ⊆ H → H ⊆ S → Closing φ G S → Closing φ H S
-  closing-between G H S h k c = record { given = k; obeys = c .obeys; least = λ R g o. c .least R (λ l t. g l (h l t)) o }
-
--- closing A, adding B and closing again is closing A with B
-abbrev pub _∪_ : Literals → Literals → Literals
-_∪_ A B = λ l. A l || B l
-
-module _ (φ : PlanFile) (A B S : Literals) (c : Closing φ A S) where
-  sub-join : _∪_ A B ⊆ _∪_ S B
-  sub-join l t = go (or-cases (A l) (B l) t)
-    where
-      go : T (A l) ⊎ T (B l) → T (S l || B l)
-      go (inl h) = or-left (S l) (B l) (c .given l h)
-      go (inr h) = or-right (S l) (B l) h
-
-  join-sub : (R : Literals) → _∪_ A B ⊆ R → Obeys φ R → _∪_ S B ⊆ R
-  join-sub R h o l t = go (or-cases (S l) (B l) t)
-    where
-      go : T (S l) ⊎ T (B l) → T (R l)
-      go (inl k) = c .least R (λ m u. h m (or-left (A m) (B m) u)) o l k
-      go (inr k) = h l (or-right (A l) (B l) k)
-
-  pub closing-join : (R : Literals) → Closing φ (_∪_ A B) R ↔ Closing φ (_∪_ S B) R
-  closing-join R = (
-    (λ d. record { given = join-sub R (d .given) (d .obeys); obeys = d .obeys; least = λ Q h o. d .least Q (λ l t. h l (sub-join l t)) o }),
-    (λ d. record { given = λ l t. d .given l (sub-join l t); obeys = d .obeys; least = λ Q h o. d .least Q (join-sub Q h o) o }),
-  )
-
-  pub clashes-join : Clashes φ (_∪_ A B) ↔ Clashes φ (_∪_ S B)
-  clashes-join = ((λ f R h o. f R (λ l t. h l (sub-join l t)) o), (λ f R h o. f R (join-sub R h o) o))
 
 -- an assignment's set never has both signs, and a full one's has one of them
 on-off : (z : ℤ) → T (isOn z) → T (isOff z) → ⊥

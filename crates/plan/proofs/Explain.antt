@@ -1,6 +1,6 @@
 -- Reasons as antt computes them: every atom has one.
 -- Assumes nothing.
-use mathlib.Core.Path.{_≡_, refl, sym, subst, ap}
+use mathlib.Core.Path.{_≡_, refl, sym, subst}
 use mathlib.Core.Logic.{_⊎_, inl, inr, _↔_}
 use mathlib.Core.Bool.{Bool, true, false, not, cond, _&&_}
 use mathlib.Core.List.{List, [], _∷_, map, List·Memᴰ, List·Memᴰ·head, List·Memᴰ·tail, List·Memᴰ·cases-cons, List·Memᴰ·not-nil, Memᴰ·cast}
@@ -17,7 +17,7 @@ use Rattle.plan.specs.declared.Kind.the-variants.{Reaches, Within}
 use Rattle.plan.specs.Ranged.{Ranged}
 use Rattle.plan.specs.Reason.{Smallest, Nearer, Back, source, step, Rising, end, more, Listed, LeavesAt, Across, Reason, holds, fails, neither, Cut, HoldsBy, FailsBy, ReasonIs}
 use Rattle.plan.proofs.Bools.{tab, anyOf, those, and-both, and-left, and-right, any-some, some-any}
-use Rattle.plan.proofs.Walks.{le-or-lt, mem-at}
+use Rattle.plan.proofs.Lists.{le-or-lt, mem-at}
 use Rattle.plan.proofs.Levels.{reached, sound, complete, enough}
 use Rattle.plan.proofs.Closing.{settles?, settles-iff}
 use Rattle.plan.proofs.Exists.{those-in, those-out}

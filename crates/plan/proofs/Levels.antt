@@ -14,7 +14,8 @@ use Rattle.plan.specs.Written.{levelsOf, levels}
 use Rattle.plan.specs.declared.Kind.{Kind}
 use Rattle.plan.specs.declared.Kind.the-variants.{Reaches, Within}
 use Rattle.plan.proofs.Bools.{tab, anyOf, or-cases, or-left, or-right, and-both, and-left, and-right, any-some, some-any, tab-in, tab-out, tab-length}
-use Rattle.plan.proofs.Walks.{le-or-lt, its-in, leads-by, true-led}
+use Rattle.plan.proofs.Lists.{le-or-lt}
+use Rattle.plan.proofs.Walks.{its-in, leads-by, true-led}
 
 -- one edge further: a node of l, or the end of a good edge that starts in l
 unfoldable pub next : ℕ → List Edge → Graph → List Bool → List Bool

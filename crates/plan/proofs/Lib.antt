@@ -1,4 +1,5 @@
 pub mod Bools
+pub mod Lists
 pub mod Walks
 pub mod Levels
 pub mod Closing

@@ -15,7 +15,8 @@ use Rattle.plan.specs.declared.Kind.the-variants.{Reaches, Within}
 use Rattle.plan.specs.Ranged.{Ranged}
 use Rattle.plan.specs.Reason.{Smallest, Nearer, Back, source, step, Rising, end, more, Listed, LeavesAt, EndsBeyond, Across, Reason, holds, fails, neither, Cut, HoldsBy, FailsBy, ReasonIs}
 use Rattle.plan.proofs.Bools.{T?, any-or-none}
-use Rattle.plan.proofs.Walks.{le-or-lt, mem-at, at-mem, its-in, Pays, kind-pays, hop-by, true-mono, distance-of, distance-unique, allows-less, true-led}
+use Rattle.plan.proofs.Lists.{le-or-lt, mem-at, at-mem}
+use Rattle.plan.proofs.Walks.{its-in, Pays, kind-pays, hop-by, true-mono, distance-of, distance-unique, allows-less, true-led}
 use Rattle.plan.proofs.Levels.{reached, sound, keeps, complete, enough}
 use Rattle.plan.proofs.Closing.{on-over, one-of}
 

@@ -8,14 +8,6 @@ use lib.ListN.{length, getD}
 use Rattle.plan.specs.Meaning.{Edge, Atom, kindOf}
 use Rattle.plan.specs.Tables.{edgesOf, atomsOf}
 
-pub edges-length : (l : List ℕ) (n : ℕ) → length l ≡ n * 3 → length (edgesOf l) ≡ n
-unfolding edgesOf
-edges-length [] n h = omega arith
-edges-length (f ∷ []) n h = absurd (omega arith)
-edges-length (f ∷ t ∷ []) n h = absurd (omega arith)
-edges-length (f ∷ t ∷ v ∷ r) zero h = absurd (omega arith)
-edges-length (f ∷ t ∷ v ∷ r) (suc n) h = ap suc (edges-length r n (omega arith))
-
 -- edge k stands at place 3k
 pub edges-at : (l : List ℕ) (k : ℕ) (d : Edge) → k * 3 + 2 < length l
     → getD (edgesOf l) k d ≡ record { from = getD l (k * 3) 0; to = getD l (k * 3 + 1) 0; variable = getD l (k * 3 + 2) 0 }

@@ -3,7 +3,7 @@
 -- Assumes nothing.
 use mathlib.Core.Path.{_≡_}
 use mathlib.Core.Logic.{_⊎_}
-use mathlib.Core.List.{List, List·Memᴰ}
+use mathlib.Core.List.{List, [], List·Memᴰ}
 use Prim.Native.Nat.{ℕ, _-_, _^_, _≤_, _<_}
 use lib.IntN.{ℤ}
 use lib.ListN.{length, take}
@@ -12,15 +12,17 @@ use Rattle.plan.specs.Ranged.{Ranged}
 use Rattle.plan.specs.Reason.{holds, fails, ReasonIs}
 use Rattle.plan.specs.Search.{opens, Closes, Outcome, Tree, Before}
 use Rattle.plan.specs.Tables.{clausesOf}
-use Rattle.plan.specs.Written.{written, ExactlyOne}
+use Rattle.plan.specs.Written.{flat, written, lastVariable, ExactlyOne}
 use Rattle.plan.specs.declared.Refusal.{Refusal}
 use Rattle.plan.proofs.Cases as cases
 use Rattle.plan.proofs.Reason as reasons
 use Rattle.encoding.specs.Counts.{Counted}
 use Rattle.encoding.proofs.Sizes as sizes
-use Rattle.reader.specs.Format.{accepted, readPlan}
+use Rattle.encoding.proofs.Sample as sample
+use Rattle.reader.specs.Format.{refused, accepted, readPlan}
 use Rattle.reader.specs.declared.ReadAnswer.{ReadAnswer}
 use Rattle.reader.proofs.Accepts as accepts
+use Rattle.reader.proofs.Sample as files
 use Rattle.planner.specs.declared.JudgeAnswer.{JudgeAnswer}
 use Rattle.planner.specs.declared.CloseAnswer.{CloseAnswer}
 use Rattle.planner.specs.declared.ReasonAnswer.{ReasonAnswer}
@@ -135,3 +137,13 @@ counts-by-formula = sizes.counted
 -- "P1 to P10 are one table, shown from the definitions by one argument"
 pub cases-shown : (c : cases.Case) → List·Memᴰ c cases.table → cases.Says c
 cases-shown = cases.shown
+
+-- 01, "The sample file": its bytes are the sample plan, which "becomes 29 variables, 66 clauses, 208 numbers"; "Empty file: 2 at 0."
+pub sample-reads : readPlan files.sample-bytes ≡ accepted cases.sample
+sample-reads = files.sample-reads
+
+pub sample-sizes : (lastVariable cases.sample ≡ 29) × (length (written cases.sample) ≡ 66) × (length (flat (written cases.sample)) ≡ 208)
+sample-sizes = sample.sample-sizes
+
+pub empty-refused : readPlan [] ≡ refused 2 0
+empty-refused = files.empty-reads

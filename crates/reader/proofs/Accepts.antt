@@ -1,6 +1,6 @@
 -- An accepted plan is in range.
 -- Assumes nothing.
-use Rattle.reader.proofs.Kit.{_≡_, refl, sym, ap, _∙_, subst, _⊎_, inl, inr, ⊎-elim, Bool, true, false, _&&_, _||_, or-true, false≢true, List, [], _∷_, _++_, List·Memᴰ, List·Memᴰ·not-nil, List·Memᴰ·cases-cons, List·Memᴰ·append-cases, List·Memᴰ·eq-of-singleton, ℕ, zero, suc, _+_, _/_, _<_, _≤_, arith, eq-eqb, ltb-true, leb-true, eqb-true, ltb, leb, eqb, ℤ, natAbs, length}
+use Rattle.reader.proofs.Kit.{_≡_, refl, sym, ap, _∙_, subst, ⊎-elim, true, false, _&&_, _||_, or-true, false≢true, List, [], _∷_, _++_, List·Memᴰ, List·Memᴰ·not-nil, List·Memᴰ·cases-cons, List·Memᴰ·append-cases, List·Memᴰ·eq-of-singleton, ℕ, zero, suc, _+_, _/_, _<_, _≤_, arith, eq-eqb, ltb-true, leb-true, eqb-true, ltb, leb, eqb, ℤ, natAbs, length}
 use Rattle.plan.specs.Meaning.{Edge, Atom, PlanFile, numberOfKind, kindOf}
 use Rattle.plan.specs.declared.Kind.{Kind}
 use Rattle.plan.specs.declared.Kind.the-variants.{Reaches, Within}
@@ -10,10 +10,6 @@ use Rattle.reader.proofs.Cases.{both, head-by, step-by, edge-by, atom-b
 use Rattle.reader.proofs.Rows.{count-clause, length-snoc, literals-length}
 
 -- the tests, taken apart
-either : (a b : Bool) → (a || b) ≡ true → (a ≡ true) ⊎ (b ≡ true)
-either true b h = inl refl
-either false b h = inr h
-
 ends-fit : (n v from to variable : ℕ) → endsOk n v from to variable ≡ true → EndsFit n v from to variable
 unfolding endsOk
 ends-fit n v from to variable h =

@@ -11,7 +11,7 @@ use lib.Dec.{T}
 use Rattle.plan.specs.Meaning.{Atom, PlanFile, edge, on, off, trueIn}
 use Rattle.plan.specs.Closing.{Settles}
 use Rattle.plan.specs.Reason.{Cut, HoldsBy, FailsBy}
-use Rattle.plan.proofs.Walks.{mem-at}
+use Rattle.plan.proofs.Lists.{mem-at}
 use Rattle.walk.specs.Hopping.{Placed}
 use Rattle.reason.specs.Answers.{AnswerIs, Answers}
 use Rattle.reason.specs.Marks.{Away, PathMarked, premises, clauseOf}

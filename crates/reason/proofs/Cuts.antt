@@ -12,7 +12,7 @@ use lib.Dec.{T, T-not}
 use Rattle.plan.specs.Meaning.{Edge, Atom, PlanFile, Graph, edge, costOf, trueIn, off}
 use Rattle.plan.specs.Reason.{Across, LeavesAt, EndsBeyond, Cut}
 use Rattle.plan.specs.declared.Kind.{Kind}
-use Rattle.plan.proofs.Walks.{le-or-lt}
+use Rattle.plan.proofs.Lists.{le-or-lt}
 use Rattle.walk.specs.Hopping.{reachedIn, distanceIn, DistanceTable}
 use Rattle.walk.proofs.Truths.{reached-distance, distance-reached, distance-is}
 use Rattle.reason.specs.Marks.{MarksAlso, Crossing, CutAt, CutBelow}

@@ -14,7 +14,7 @@ use lib.Dec.{T}
 use Rattle.plan.specs.Meaning.{literalOf}
 use Rattle.plan.specs.Buffers.{Wrote}
 use Rattle.plan.specs.Reason.{Rising, end, more, Listed}
-use Rattle.plan.proofs.Walks.{le-or-lt}
+use Rattle.plan.proofs.Lists.{le-or-lt}
 use Rattle.reason.specs.Marks.{premises, piece, clauseOf, Appends}
 
 -- ---- rising, each once

@@ -13,7 +13,7 @@ use lib.IntN.{ℤ}
 use lib.Dec.{T}
 use Rattle.plan.specs.Meaning.{Edge, Atom, Graph, Cost, edge, costOf}
 use Rattle.plan.specs.Reason.{Nearer, Back, source, step}
-use Rattle.plan.proofs.Walks.{mem-at}
+use Rattle.plan.proofs.Lists.{mem-at}
 use Rattle.plan.proofs.Explain.{last-nearer}
 use Rattle.walk.specs.Hopping.{Placed}
 use Rattle.reason.specs.Marks.{Fits, EdgeFits, MarksAlso, holding, Away, Leads, FirstNearer, PathMarked}

@@ -18,7 +18,7 @@ use Rattle.plan.specs.Ranged.{maxVariables, LiteralFits}
 use Rattle.plan.specs.Search.{opens}
 use Rattle.plan.proofs.Add.{IsValue, on-one, off-one}
 use Rattle.plan.proofs.Signs.{natAbs-neg}
-use Rattle.plan.proofs.Walks.{le-or-lt}
+use Rattle.plan.proofs.Lists.{le-or-lt}
 use Rattle.unit.specs.Queue.{Pending, None, Above, Since, literalAt, Queued}
 use Rattle.unit.proofs.Calm.{quiet-or-waits}
 

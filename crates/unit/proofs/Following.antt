@@ -20,7 +20,7 @@ use Rattle.plan.specs.ClauseTable.{Ended, Table, End, BeginsAt, Begin, part, St
 use Rattle.plan.proofs.Add.{add-above, add-has, add-shape, add-opens}
 use Rattle.plan.proofs.Closing.{clash-mono}
 use Rattle.plan.proofs.Exists.{opens-le}
-use Rattle.plan.proofs.Walks.{le-or-lt}
+use Rattle.plan.proofs.Lists.{le-or-lt}
 use Rattle.plan.proofs.ClauseTable.{end-some, first-clause, no-more, stands-in, begins-behind, stands-from, around-one, around-some}
 use Rattle.index.specs.Places.{Place}
 use Rattle.unit.specs.Clauses.{Ready, Says, Quiet, HasClauses, ByClauses, ClauseClash, Ends, Propagated}

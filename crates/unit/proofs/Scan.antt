@@ -14,7 +14,7 @@ use Rattle.plan.specs.Ranged.{LiteralFits}
 use Rattle.plan.specs.ClauseTable.{EndsAt, End, part}
 use Rattle.plan.proofs.Bools.{T?}
 use Rattle.plan.proofs.Places.{found-on}
-use Rattle.plan.proofs.Walks.{le-or-lt}
+use Rattle.plan.proofs.Lists.{le-or-lt}
 use Rattle.plan.proofs.ClauseTable.{not-last, part-in, part-out}
 use Rattle.unit.specs.Clauses.{Ready, Stops, Stop, OthersFalse, SaysAt}
 use Rattle.unit.specs.declared.Said.the-variants.{Clash, Gives, Nothing}

@@ -12,7 +12,7 @@ use Rattle.plan.specs.Meaning.{Edge, edge}
 use Rattle.plan.specs.Tables.{edgesOf}
 use Rattle.plan.proofs.Signs.{bits-same}
 use Rattle.plan.proofs.Values.{value-at}
-use Rattle.plan.proofs.Walks.{mem-at}
+use Rattle.plan.proofs.Lists.{mem-at}
 use Rattle.plan.proofs.Tables.{within-listed}
 use Rattle.closing.proofs.Rounds.{SameAt, same-all}
 use Rattle.closing.proofs.same_edges.Statement.{statement}

@@ -8,7 +8,7 @@ use lib.Dec.{T}
 use lib.Seq.{drop-cons}
 use Rattle.plan.specs.Meaning.{Atom, oneHop, trueIn, under}
 use Rattle.plan.proofs.Tables.{atoms-length}
-use Rattle.plan.proofs.Walks.{mem-at}
+use Rattle.plan.proofs.Lists.{mem-at}
 use Rattle.walk.proofs.Truths.{so, not-so}
 use Prim.Native.Nat.{suc, _-_, _<_, _≤_}
 use native.Mathlib.Omega.{arith}

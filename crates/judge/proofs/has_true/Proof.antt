@@ -15,7 +15,7 @@ use Rattle.plan.specs.Meaning.{trueIn}
 use Rattle.plan.specs.Ranged.{LiteralFits}
 use Rattle.plan.specs.Tables.{literalValue}
 use Rattle.plan.specs.Places.{Without}
-use Rattle.plan.proofs.Walks.{mem-at, at-mem}
+use Rattle.plan.proofs.Lists.{mem-at, at-mem}
 use Rattle.plan.proofs.Literals.{bits-true, true-bits}
 use Rattle.plan.proofs.Places.{without-none, without-more}
 use Rattle.judge.proofs.has_true.Statement.{statement}

@@ -1,5 +1,4 @@
 -- `judge::is_right`: the variable's value beside the atom's truth.
-use Prim.Native.Nat.{_≤_}
 use borrow.Author.Needs.{needs}
 use Rattle.plan.specs.Meaning.{trueIn, on}
 use Rattle.judge.proofs.Rights.{right-on, right-off, value-one, value-else}

@@ -12,8 +12,6 @@ use mir.Val.{SFits}
 use mir.Facts.{toZ-ofZ}
 use Rattle.plan.proofs.copy.Statement.{statement}
 use Rattle.plan.proofs.copy.Tie as tie
-use Rattle.plan.proofs.copy.Reads as reads
-use Rattle.plan.proofs.copy.Lts as lts
 
 abbrev Inv-loop : tie.InvT-loop
 Inv-loop to₀ from i₀ to i = (i ≤ length from) × (take i to ≡ take i from) × (length to ≡ length to₀)

@@ -3,8 +3,6 @@ use Rattle.plan.proofs.Tables.{edges-at}
 use borrow.Author.Needs.{needs}
 use Rattle.plan.proofs.edge_at.Statement.{statement}
 use Rattle.plan.proofs.edge_at.Tie as tie
-use Rattle.plan.proofs.edge_at.Reads as reads
-use Rattle.plan.proofs.edge_at.Lts as lts
 
 -- src/lib.rt:187:14
 mul-at : tie.Need-mul-at

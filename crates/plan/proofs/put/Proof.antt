@@ -6,9 +6,6 @@ use Rattle.plan.proofs.Values.{small-ne, with-on, with-off}
 use borrow.Author.Needs.{needs}
 use Rattle.plan.proofs.put.Statement.{statement}
 use Rattle.plan.proofs.put.Tie as tie
-use Rattle.plan.proofs.put.Reads as reads
-use Rattle.plan.proofs.put.Lts as lts
-use Rattle.plan.proofs.variable_of.Reads as variable-of-reads
 
 variable-of-requires : tie.Need-variable-of-requires
 variable-of-requires c κs = rw (toZ-ofZ (c .fits .literal)) (small-ne (c .args .literal) (omega arith))

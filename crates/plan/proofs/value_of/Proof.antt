@@ -9,9 +9,6 @@ use Rattle.plan.proofs.Values.{small-ne, value-on, value-off, sign-fits
 use Rattle.plan.proofs.Add.{IsValue}
 use Rattle.plan.proofs.value_of.Statement.{statement}
 use Rattle.plan.proofs.value_of.Tie as tie
-use Rattle.plan.proofs.value_of.Reads as reads
-use Rattle.plan.proofs.value_of.Lts as lts
-use Rattle.plan.proofs.variable_of.Reads as variable-of-reads
 
 variable-of-requires : tie.Need-variable-of-requires
 variable-of-requires c κs = rw (toZ-ofZ (c .fits .literal)) (small-ne (c .args .literal) (omega arith))

@@ -5,8 +5,6 @@ use mir.Facts.{toZ-ofZ}
 use Rattle.plan.proofs.Signs.{sub-fits, sub-is, cast-fits, neg-fits, natAbs-neg, below-zero, not-below-zero}
 use Rattle.plan.proofs.variable_of.Statement.{statement}
 use Rattle.plan.proofs.variable_of.Tie as tie
-use Rattle.plan.proofs.variable_of.Reads as reads
-use Rattle.plan.proofs.variable_of.Lts as lts
 
 sub-result : tie.Need-sub-result
 sub-result c = sub-fits _ (c .before .fits .literal) (c .before .pre)

@@ -1,11 +1,11 @@
 -- `reason_lent`: the checks as the statement has them, then the reason.
 use borrow.Author.Needs.{needs}
-use mathlib.Core.Path.{_≡_, refl, sym, ap, _∙_, subst}
-use mathlib.Core.List.{List, _++_}
-use Prim.Native.Nat.{ℕ, _-_, _≤_, _<_}
+use mathlib.Core.Path.{_≡_, refl, sym, _∙_, subst}
+use mathlib.Core.List.{List}
+use Prim.Native.Nat.{ℕ, _-_}
 use native.Mathlib.Omega.{arith}
 use lib.IntN.{ℤ}
-use lib.ListN.{length, drop}
+use lib.ListN.{length}
 use Rattle.plan.specs.Meaning.{PlanFile, atom}
 use Rattle.plan.specs.Tables.{planOf}
 use Rattle.plan.proofs.Tables.{atoms-length}

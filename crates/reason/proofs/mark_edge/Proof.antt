@@ -9,7 +9,7 @@ use lib.ListN.{length}
 use Rattle.plan.specs.Meaning.{Edge, PlanFile}
 use Rattle.plan.specs.Tables.{edgesOf, edgeOf, atomOf}
 use Rattle.plan.proofs.Tables.{within-listed}
-use Rattle.plan.proofs.Walks.{mem-at}
+use Rattle.plan.proofs.Lists.{mem-at}
 use Rattle.walk.proofs.Truths.{so, not-so}
 use Rattle.reason.specs.Answers.{withEdges}
 use Rattle.reason.specs.Marks.{EdgeFits, Crossing, CutAt}

@@ -9,7 +9,7 @@ use Rattle.plan.specs.Meaning.{Edge, costOf}
 use Rattle.plan.specs.Reason.{Nearer}
 use Rattle.plan.specs.Tables.{edgesOf, edgeOf, atomOf}
 use Rattle.plan.proofs.Tables.{edges-most, within-listed}
-use Rattle.plan.proofs.Walks.{mem-at}
+use Rattle.plan.proofs.Lists.{mem-at}
 use Rattle.walk.proofs.Truths.{so, not-so}
 use Rattle.reason.specs.Marks.{EdgeFits, holding}
 use Rattle.reason.proofs.Paths.{edge-fits, nearer-of, of-nearer, some-nearer}

@@ -12,7 +12,7 @@ use Rattle.plan.specs.Tables.{edgesOf, atomsOf, atomOf}
 use Rattle.plan.specs.declared.State.{State}
 use Rattle.plan.specs.declared.State.the-variants as state
 use Rattle.plan.proofs.Tables.{atoms-length}
-use Rattle.plan.proofs.Walks.{mem-at}
+use Rattle.plan.proofs.Lists.{mem-at}
 use Rattle.walk.proofs.Lending.{lent-inside, lent-placed, atom-from, atom-to}
 use Rattle.reason.specs.Answers.{AnswerIs, Over, withEdges}
 use Rattle.reason.specs.Marks.{Fits}

@@ -30,9 +30,6 @@ module _ (c : tie.After-follow Inv-loop μ-loop) where
   abbrev turn : tie.At-loop Inv-loop μ-loop
   turn = c .before .before .before .before
 
-  abbrev begin : tie.Start Inv-loop μ-loop
-  begin = turn .before
-
   inside : turn .loop .head < maxVariables
   inside = omega (arith, c .before .before .before .loop-test .taken, turn .loop .inv .goes refl .queue .room)
 

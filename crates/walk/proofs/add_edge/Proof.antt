@@ -5,7 +5,7 @@ use native.Mathlib.Omega.{arith}
 use borrow.Author.Tests.{not-true, not-false}
 use lib.ListN.{length}
 use Rattle.plan.specs.Tables.{edgesOf, edgeOf}
-use Rattle.plan.proofs.Walks.{mem-at}
+use Rattle.plan.proofs.Lists.{mem-at}
 use Rattle.walk.proofs.Truths.{so, not-so}
 use Rattle.walk.proofs.Sets.{one-shifted}
 use Rattle.plan.proofs.Tables.{within-listed}

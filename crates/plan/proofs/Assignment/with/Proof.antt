@@ -5,9 +5,6 @@ use lib.IntN.{natAbs}
 use Rattle.plan.proofs.Values.{small-ne, with-on, with-off}
 use Rattle.plan.proofs.Assignment.with.Statement.{statement}
 use Rattle.plan.proofs.Assignment.with.Tie as tie
-use Rattle.plan.proofs.Assignment.with.Reads as reads
-use Rattle.plan.proofs.Assignment.with.Lts as lts
-use Rattle.plan.proofs.variable_of.Reads as variable-of-reads
 
 variable-of-requires : tie.Need-variable-of-requires
 variable-of-requires c κs = rw (toZ-ofZ (c .fits .literal)) (small-ne (c .args .literal) (c .pre .high))

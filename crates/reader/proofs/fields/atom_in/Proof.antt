@@ -1,5 +1,5 @@
 -- `atom_in` reads the five numbers of an atom, the first as its kind.
-use Rattle.reader.proofs.Kit.{ap, _∙_, _+_, arith, needs}
+use Rattle.reader.proofs.Kit.{ap, _∙_, _+_, needs}
 use Rattle.plan.specs.Meaning.{kindOf}
 use Rattle.reader.proofs.fields.atom_in.Statement.{statement}
 use Rattle.reader.proofs.fields.atom_in.Tie as tie

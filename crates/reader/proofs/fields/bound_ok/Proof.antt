@@ -1,5 +1,5 @@
 -- `bound_ok` makes each kind's test of its bound.
-use Rattle.reader.proofs.Kit.{refl, needs}
+use Rattle.reader.proofs.Kit.{needs}
 use Rattle.reader.proofs.fields.bound_ok.Statement.{statement}
 use Rattle.reader.proofs.fields.bound_ok.Tie as tie
 
