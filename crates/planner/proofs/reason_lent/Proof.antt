@@ -10,7 +10,6 @@ use Rattle.plan.specs.Meaning.{PlanFile, atom}
 use Rattle.plan.specs.Tables.{planOf}
 use Rattle.plan.proofs.Tables.{atoms-length}
 use Rattle.reason.specs.Answers.{AnswerIs}
-use Rattle.reason.specs.Answers as answers
 use Rattle.reason.specs.declared.Answer as answer
 use Rattle.reason.specs.declared.Answer.the-variants as said
 use Rattle.plan.specs.declared.Refusal.the-variants.{NoRoom}
