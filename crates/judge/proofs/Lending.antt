@@ -15,7 +15,7 @@ use Rattle.plan.specs.ClauseTable.{Table}
 use Rattle.plan.specs.declared.Plan.{Plan}
 use Rattle.plan.proofs.ClauseTable.{lent-table}
 use Rattle.walk.proofs.Lending.{atom-from, atom-to}
-use Rattle.judge.specs.Verdicts.{AtomsFit}
+use Rattle.judge.specs.Judgements.{AtomsFit}
 
 pub full-assigned : (n : ℕ) (a : List ℤ) → Full n a → Assigned (length a) a
 full-assigned n a f = subst (λ k. Assigned k a) (sym (f .long)) (record { long = f .long; each = λ i l. ⊎-elim (λ e. inl e) (λ e. inr (inl e)) (f .each i l) })

@@ -14,10 +14,10 @@ ghost use Rattle.plan.specs.Judging.{Judged};
 ghost use Rattle.plan.specs.Tables.{edgesOf, atomsOf, atomOf, clausesOf, planOf, Lent};
 ghost use Rattle.plan.specs.ClauseTable.{Table};
 ghost use Rattle.walk.specs.Hopping.{Inside, Placed, Walked};
-ghost use Rattle.judge.specs.Verdicts.{verdictOf, FirstIs, RightIn, RightBy, LiteralsFit, AtomsFit};
+ghost use Rattle.judge.specs.Judgements.{judgementOf, FirstIs, RightIn, RightBy, LiteralsFit, AtomsFit};
 
 // What an assignment is: a plan, or the number of the first clause without a true literal, or of the first atom whose variable is wrong.
-pub enum Verdict {
+pub enum Judgement {
     Plan,
     Clause(usize),
     Atom(usize),
@@ -128,21 +128,21 @@ pub fn judge(
     atoms: &[u16],
     clauses: &[i16],
     assignment: &[i8],
-) -> Verdict
+) -> Judgement
     requires { ⌜ Lent plan (now edges) (now atoms) (now clauses) ⌝ }
     requires { ⌜ Full (plan .variables) (now assignment) ⌝ }
-    ensures { λ r. ⌜ Judged (planOf plan (now (edges .entry)) (now (atoms .entry)) (now (clauses .entry))) (now (assignment .entry)) (verdictOf r) ⌝ }
+    ensures { λ r. ⌜ Judged (planOf plan (now (edges .entry)) (now (atoms .entry)) (now (clauses .entry))) (now (assignment .entry)) (judgementOf r) ⌝ }
 {
     let clause = first_untrue(assignment, clauses);
     match clause {
         First::At(number) => {
-            return Verdict::Clause(number);
+            return Judgement::Clause(number);
         }
         First::Nowhere => {}
     }
     let atom = first_wrong(edges, atoms, plan.atoms, assignment);
     match atom {
-        First::At(number) => Verdict::Atom(number),
-        First::Nowhere => Verdict::Plan,
+        First::At(number) => Judgement::Atom(number),
+        First::Nowhere => Judgement::Plan,
     }
 }

@@ -16,7 +16,7 @@ use Rattle.plan.specs.Written.{levels}
 use Rattle.plan.specs.declared.Kind.{Kind}
 use Rattle.plan.specs.declared.Kind.the-variants.{Reaches, Within}
 use Rattle.plan.specs.Search.{Assigned, CloseIs, Outcome, nothing, found, Tree}
-use Rattle.plan.specs.Judging.{Verdict, plan, no-true, wrong, Judged}
+use Rattle.plan.specs.Judging.{Judgement, plan, no-true, wrong, Judged}
 use Rattle.plan.specs.Reason.{Reason, holds, fails, neither, ReasonIs}
 use Rattle.plan.proofs.Bools.{allOf, and-left, and-right, or-cases, all-each}
 use Rattle.plan.proofs.Levels.{next, reached, isTrue?, true-iff}
@@ -163,27 +163,27 @@ eqOutcome→eq nothing (found q) t = absurd t
 eqOutcome→eq (found p) nothing t = absurd t
 eqOutcome→eq (found p) (found q) t = ap found (eqList→eq p q t)
 
-abbrev eqVerdict : Verdict → Verdict → Bool
-eqVerdict plan plan = true
-eqVerdict plan (no-true n) = false
-eqVerdict plan (wrong n) = false
-eqVerdict (no-true m) plan = false
-eqVerdict (no-true m) (no-true n) = eqb m n
-eqVerdict (no-true m) (wrong n) = false
-eqVerdict (wrong m) plan = false
-eqVerdict (wrong m) (no-true n) = false
-eqVerdict (wrong m) (wrong n) = eqb m n
+abbrev eqJudgement : Judgement → Judgement → Bool
+eqJudgement plan plan = true
+eqJudgement plan (no-true n) = false
+eqJudgement plan (wrong n) = false
+eqJudgement (no-true m) plan = false
+eqJudgement (no-true m) (no-true n) = eqb m n
+eqJudgement (no-true m) (wrong n) = false
+eqJudgement (wrong m) plan = false
+eqJudgement (wrong m) (no-true n) = false
+eqJudgement (wrong m) (wrong n) = eqb m n
 
-eqVerdict→eq : (v w : Verdict) → T (eqVerdict v w) → v ≡ w
-eqVerdict→eq plan plan t = refl
-eqVerdict→eq plan (no-true n) t = absurd t
-eqVerdict→eq plan (wrong n) t = absurd t
-eqVerdict→eq (no-true m) plan t = absurd t
-eqVerdict→eq (no-true m) (no-true n) t = ap no-true (eqb→eq m n t)
-eqVerdict→eq (no-true m) (wrong n) t = absurd t
-eqVerdict→eq (wrong m) plan t = absurd t
-eqVerdict→eq (wrong m) (no-true n) t = absurd t
-eqVerdict→eq (wrong m) (wrong n) t = ap wrong (eqb→eq m n t)
+eqJudgement→eq : (v w : Judgement) → T (eqJudgement v w) → v ≡ w
+eqJudgement→eq plan plan t = refl
+eqJudgement→eq plan (no-true n) t = absurd t
+eqJudgement→eq plan (wrong n) t = absurd t
+eqJudgement→eq (no-true m) plan t = absurd t
+eqJudgement→eq (no-true m) (no-true n) t = ap no-true (eqb→eq m n t)
+eqJudgement→eq (no-true m) (wrong n) t = absurd t
+eqJudgement→eq (wrong m) plan t = absurd t
+eqJudgement→eq (wrong m) (no-true n) t = absurd t
+eqJudgement→eq (wrong m) (wrong n) t = ap wrong (eqb→eq m n t)
 
 abbrev eqReason : Reason → Reason → Bool
 eqReason (holds r) (holds r′) = eqList r r′
@@ -211,7 +211,7 @@ eqReason→eq neither neither t = refl
 pub data Case : Type 0 where
   is-true : PlanFile → List ℤ → Atom → Case
   is-false : PlanFile → List ℤ → Atom → Case
-  judges : PlanFile → List ℤ → Verdict → Case
+  judges : PlanFile → List ℤ → Judgement → Case
   closes : PlanFile → List ℤ → Outcome → Case
   explains : PlanFile → List ℤ → Atom → Reason → Case
   finds : PlanFile → List ℤ → Outcome → ℕ → Case
@@ -230,7 +230,7 @@ atomFits φ A = ranged? φ && ltb (A .from) (φ .nodes)
 abbrev pub passes : Case → Bool
 passes (is-true φ a A) = atomFits φ A && isTrue? (φ .nodes) (φ .edges) (under (trueIn a)) A
 passes (is-false φ a A) = atomFits φ A && not (isTrue? (φ .nodes) (φ .edges) (under (trueIn a)) A)
-passes (judges φ a v) = ranged? φ && (full? (φ .variables) a && eqVerdict (judge φ a) v)
+passes (judges φ a v) = ranged? φ && (full? (φ .variables) a && eqJudgement (judge φ a) v)
 passes (closes φ a o) = ranged? φ && (assigned? (φ .variables) a && eqOutcome (close (suc (φ .variables)) φ a) o)
 passes (explains φ a A r) = atomFits φ A && eqReason (reason φ a A) r
 passes (finds φ a o b) = ranged? φ && (assigned? (φ .variables) a && (eqOutcome (search (suc (φ .variables)) φ a .outcome) o && eqb (search (suc (φ .variables)) φ a .count) b))
@@ -246,7 +246,7 @@ passed (is-true φ a A) t = fits-iff φ a A (and-left (atomFits φ A) _ t) .0 (a
 passed (is-false φ a A) t = λ h. T-not (isTrue? (φ .nodes) (φ .edges) (under (trueIn a)) A) (and-right (atomFits φ A) _ t) (fits-iff φ a A (and-left (atomFits φ A) _ t) .1 h)
 passed (judges φ a v) t =
     let u = and-right (ranged? φ) _ t in
-    subst (λ w. Judged φ a w) (eqVerdict→eq (judge φ a) v (and-right (full? (φ .variables) a) _ u))
+    subst (λ w. Judged φ a w) (eqJudgement→eq (judge φ a) v (and-right (full? (φ .variables) a) _ u))
     (judge-is φ (ranged φ (and-left (ranged? φ) _ t)) a (full-is (φ .variables) a (and-left (full? (φ .variables) a) _ u)))
 passed (closes φ a o) t =
     let u = and-right (ranged? φ) _ t in

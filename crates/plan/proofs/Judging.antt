@@ -1,4 +1,4 @@
--- Judging has one verdict, and antt computes it.
+-- Judging has one judgement, and antt computes it.
 -- Assumes nothing.
 use mathlib.Core.Path.{_≡_, refl, sym, subst, ap}
 use mathlib.Core.Logic.{_⊎_, inl, inr, _↔_}
@@ -9,7 +9,7 @@ use lib.IntN.{ℤ}
 use lib.Dec.{T}
 use Rattle.plan.specs.Meaning.{Atom, PlanFile, on, trueIn, under, Full, HasTrue, IsRight}
 use Rattle.plan.specs.Ranged.{Ranged}
-use Rattle.plan.specs.Judging.{FirstWithout, here, later, Verdict, plan, no-true, wrong, Judged}
+use Rattle.plan.specs.Judging.{FirstWithout, here, later, Judgement, plan, no-true, wrong, Judged}
 use Rattle.plan.proofs.Bools.{anyOf, any-some, some-any}
 use Rattle.plan.proofs.Levels.{isTrue?, true-iff}
 
@@ -25,8 +25,8 @@ module _ {A : Type 0} (P : A → Type 0) where
   first-not-all (later p r) h = first-not-all r (λ x m. h x (List·Memᴰ·tail m))
 
 module _ (φ : PlanFile) (a : List ℤ) where
-  -- no second verdict fits
-  pub judged-unique : (v w : Verdict) → Judged φ a v → Judged φ a w → v ≡ w
+  -- no second judgement fits
+  pub judged-unique : (v w : Judgement) → Judged φ a v → Judged φ a w → v ≡ w
   judged-unique plan plan x y = refl
   judged-unique plan (no-true n) x y = absurd (first-not-all (HasTrue a) y (x .clause))
   judged-unique plan (wrong n) x y = absurd (first-not-all (IsRight φ a) (y .1) (x .atom))
@@ -37,7 +37,7 @@ module _ (φ : PlanFile) (a : List ℤ) where
   judged-unique (wrong m) (no-true n) x y = absurd (first-not-all (HasTrue a) y (x .0))
   judged-unique (wrong m) (wrong n) x y = ap wrong (first-unique (IsRight φ a) (x .1) (y .1))
 
--- the computed verdict: 0 if every element passes, else the first place that does not
+-- the computed judgement: 0 if every element passes, else the first place that does not
 abbrev pub oneUp : ℕ → ℕ
 oneUp zero = zero
 oneUp (suc n) = suc (suc n)
@@ -66,10 +66,10 @@ firstNot-is P f (x ∷ xs) h = go (f x) (h x (List·Memᴰ·head refl)) (firstNo
     go true e r = first-cons P x xs (firstNot f xs) (e .0 tt) r
     go false e r = here (λ p. e .1 p)
 
-abbrev pub verdictOf : ℕ → ℕ → Verdict
-verdictOf zero zero = plan
-verdictOf zero (suc n) = wrong (suc n)
-verdictOf (suc m) n = no-true (suc m)
+abbrev pub judgementOf : ℕ → ℕ → Judgement
+judgementOf zero zero = plan
+judgementOf zero (suc n) = wrong (suc n)
+judgementOf (suc m) n = no-true (suc m)
 
 abbrev pub hasTrue? : List ℤ → List ℤ → Bool
 hasTrue? a C = anyOf (trueIn a) C
@@ -77,8 +77,8 @@ hasTrue? a C = anyOf (trueIn a) C
 abbrev pub isRight? : PlanFile → List ℤ → Atom → Bool
 isRight? φ a A = Bool·beq (trueIn a (on (A .variable))) (isTrue? (φ .nodes) (φ .edges) (under (trueIn a)) A)
 
-unfoldable pub judge : PlanFile → List ℤ → Verdict
-judge φ a = verdictOf (firstNot (hasTrue? a) (φ .clauses)) (firstNot (isRight? φ a) (φ .atoms))
+unfoldable pub judge : PlanFile → List ℤ → Judgement
+judge φ a = judgementOf (firstNot (hasTrue? a) (φ .clauses)) (firstNot (isRight? φ a) (φ .atoms))
 
 beq-iff : {P : Type 0} (b c : Bool) → (T c ↔ P) → T (Bool·beq b c) ↔ (T b ↔ P)
 beq-iff true true e = ((λ t. ((λ u. e .0 tt), (λ p. tt))), (λ q. tt))
@@ -87,15 +87,15 @@ beq-iff false true e = ((λ t. absurd t), (λ q. q .1 (e .0 tt)))
 beq-iff false false e = ((λ t. ((λ u. absurd u), (λ p. e .1 p))), (λ q. tt))
 
 module _ (φ : PlanFile) (ok : Ranged φ) (a : List ℤ) (f : Full (φ .variables) a) where
-  verdict-is : (m n : ℕ) → FirstIs (HasTrue a) (φ .clauses) m → FirstIs (IsRight φ a) (φ .atoms) n → Judged φ a (verdictOf m n)
-  verdict-is zero zero x y = record { full = f; clause = x; atom = y }
-  verdict-is zero (suc n) x y = (x, y)
-  verdict-is (suc m) n x y = x
+  judgement-is : (m n : ℕ) → FirstIs (HasTrue a) (φ .clauses) m → FirstIs (IsRight φ a) (φ .atoms) n → Judged φ a (judgementOf m n)
+  judgement-is zero zero x y = record { full = f; clause = x; atom = y }
+  judgement-is zero (suc n) x y = (x, y)
+  judgement-is (suc m) n x y = x
 
   pub judge-is : Judged φ a (judge φ a)
   unfolding judge
   judge-is =
-      verdict-is (firstNot (hasTrue? a) (φ .clauses)) (firstNot (isRight? φ a) (φ .atoms))
+      judgement-is (firstNot (hasTrue? a) (φ .clauses)) (firstNot (isRight? φ a) (φ .atoms))
       (firstNot-is (HasTrue a) (hasTrue? a) (φ .clauses) (λ C m. ((λ t. any-some (trueIn a) C t), (λ q. some-any (trueIn a) C (q .0) (q .1) (q .2)))))
       (firstNot-is (IsRight φ a) (isRight? φ a) (φ .atoms)
       (λ A m. beq-iff (trueIn a (on (A .variable))) (isTrue? (φ .nodes) (φ .edges) (under (trueIn a)) A)

@@ -10,13 +10,13 @@ pub data FirstWithout {A : Type 0} (P : A → Type 0) : List A → ℕ → Type 
   here : {x : A} {xs : List A} → (P x → ⊥) → FirstWithout P (x ∷ xs) (suc zero)
   later : {x : A} {xs : List A} {n : ℕ} → P x → FirstWithout P xs n → FirstWithout P (x ∷ xs) (suc n)
 
-pub data Verdict : Type 0 where
-  plan : Verdict
-  no-true : ℕ → Verdict
-  wrong : ℕ → Verdict
+pub data Judgement : Type 0 where
+  plan : Judgement
+  no-true : ℕ → Judgement
+  wrong : ℕ → Judgement
 
 -- "'plan', or the first clause without a true literal, or, if there is none, the first atom whose variable is wrong"
-abbrev pub Judged : PlanFile → List ℤ → Verdict → Type 0
+abbrev pub Judged : PlanFile → List ℤ → Judgement → Type 0
 Judged φ a plan = IsPlan φ a
 Judged φ a (no-true n) = FirstWithout (HasTrue a) (φ .clauses) n
 Judged φ a (wrong n) = ((C : List ℤ) → List·Memᴰ C (φ .clauses) → HasTrue a C) × FirstWithout (IsRight φ a) (φ .atoms) n

@@ -110,7 +110,7 @@ read-unique file r s h k = unique read.Refused Counts one-count read.Accepted (�
 
 -- ---- judge
 
-abbrev toldJudge : judging.Verdict → JudgeAnswer
+abbrev toldJudge : judging.Judgement → JudgeAnswer
 toldJudge judging.plan = judge.Plan
 toldJudge (judging.no-true n) = judge.Clause n
 toldJudge (judging.wrong n) = judge.Atom n

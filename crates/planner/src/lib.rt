@@ -1,6 +1,6 @@
 // planner: the public calls of the library. Each reads the file, and what is accepted is lent on to its own function below.
 use clauses::Writing;
-use judge::Verdict;
+use judge::Judgement;
 use plan::Assignment;
 use plan::Atom;
 use plan::Clause;
@@ -217,11 +217,11 @@ fn judge_lent(
     if place != assignment.len() {
         return JudgeAnswer::Refused(Refusal::BadValue(place));
     }
-    let verdict = judge::judge(plan, edges, atoms, clauses, assignment);
-    match verdict {
-        Verdict::Plan => JudgeAnswer::Plan,
-        Verdict::Clause(number) => JudgeAnswer::Clause(number),
-        Verdict::Atom(number) => JudgeAnswer::Atom(number),
+    let judgement = judge::judge(plan, edges, atoms, clauses, assignment);
+    match judgement {
+        Judgement::Plan => JudgeAnswer::Plan,
+        Judgement::Clause(number) => JudgeAnswer::Clause(number),
+        Judgement::Atom(number) => JudgeAnswer::Atom(number),
     }
 }
 

@@ -64,6 +64,6 @@ Keeps (found-as.Impossible b) before after = after ≡ before
 Keeps (found-as.Undecided b) before after = after ≡ before
 
 -- "From all open."
-pub record Answers (φ : PlanFile) (budget : ℕ) (before after : List ℤ) (r : Found) : Type 0 where
+pub record Finds (φ : PlanFile) (budget : ℕ) (before after : List ℤ) (r : Found) : Type 0 where
   pub searched : Searched φ (replicate (φ .variables) (pos 0)) budget (answerOf r after) (countOf r)
   pub keeps : Keeps r before after

@@ -15,7 +15,7 @@ ghost use Rattle.index.specs.Places.{Indexed};
 ghost use Rattle.unit.specs.Clauses.{AllQuiet};
 ghost use Rattle.unit.specs.Queue.{Known};
 ghost use Rattle.closing.specs.Closed.{closedOf};
-ghost use Rattle.search.specs.Report.{Reported, Filled, FirstOpen, Begins, Answers};
+ghost use Rattle.search.specs.Report.{Reported, Filled, FirstOpen, Begins, Finds};
 
 pub enum Verdict {
     Plan,
@@ -24,9 +24,9 @@ pub enum Verdict {
 }
 
 // A part of the search: the verdict, the plan that it holds, and the branchings counted so far.
-pub struct Outcome {
+pub struct Report {
     pub verdict: Verdict,
-    pub plan: Assignment,
+    pub held: Assignment,
     pub count: u32,
 }
 
@@ -92,28 +92,28 @@ fn settle(
     from: usize,
     budget: u32,
     count: u32,
-) -> Outcome
+) -> Report
     requires { ⌜ Begins plan (now edges) (now atoms) (now clauses) (take (plan .variables) (a .values)) budget count ⌝ }
     requires { ⌜ Indexed (now clauses) (now places) ⌝ }
     requires { ⌜ Known (now clauses) (take (plan .variables) (a .values)) tried ⌝ }
     requires { ⌜ from ≤ plan .variables ⌝ }
     requires { ⌜ Filled (take (plan .variables) (a .values)) from ⌝ }
-    ensures { λ r. ⌜ Reported (planOf plan (now (edges .entry)) (now (atoms .entry)) (now (clauses .entry))) (take (plan .variables) (a .values)) budget count (r .verdict) (take (plan .variables) (r .plan .values)) (r .count) ⌝ }
+    ensures { λ r. ⌜ Reported (planOf plan (now (edges .entry)) (now (atoms .entry)) (now (clauses .entry))) (take (plan .variables) (a .values)) budget count (r .verdict) (take (plan .variables) (r .held .values)) (r .count) ⌝ }
 {
     let part = closed(plan, edges, atoms, clauses, places, a, tried);
     let set = part.set;
     if part.clash {
-        return Outcome {
+        return Report {
             verdict: Verdict::Impossible,
-            plan: set,
+            held: set,
             count: count,
         };
     }
     let place = open_place(plan, set, from);
     if place == plan::wide(plan.variables) {
-        return Outcome {
+        return Report {
             verdict: Verdict::Plan,
-            plan: set,
+            held: set,
             count: count,
         };
     }
@@ -141,17 +141,17 @@ fn branch(
     place: usize,
     budget: u32,
     count: u32,
-) -> Outcome
+) -> Report
     requires { ⌜ Begins plan (now edges) (now atoms) (now clauses) (take (plan .variables) (a .values)) budget count ⌝ }
     requires { ⌜ Indexed (now clauses) (now places) ⌝ }
     requires { ⌜ AllQuiet (trueIn (take (plan .variables) (a .values))) (clausesOf (now clauses)) ⌝ }
     requires { ⌜ Lowest (take (plan .variables) (a .values)) place ⌝ }
-    ensures { λ r. ⌜ ((b : List ℤ) → Closes (planOf plan (now (edges .entry)) (now (atoms .entry)) (now (clauses .entry))) b (take (plan .variables) (a .values)) → Reported (planOf plan (now (edges .entry)) (now (atoms .entry)) (now (clauses .entry))) b budget count (r .verdict) (take (plan .variables) (r .plan .values)) (r .count)) ⌝ }
+    ensures { λ r. ⌜ ((b : List ℤ) → Closes (planOf plan (now (edges .entry)) (now (atoms .entry)) (now (clauses .entry))) b (take (plan .variables) (a .values)) → Reported (planOf plan (now (edges .entry)) (now (atoms .entry)) (now (clauses .entry))) b budget count (r .verdict) (take (plan .variables) (r .held .values)) (r .count)) ⌝ }
 {
     if count == budget {
-        return Outcome {
+        return Report {
             verdict: Verdict::Undecided,
-            plan: a,
+            held: a,
             count: count,
         };
     }
@@ -208,7 +208,7 @@ pub fn search(
 ) -> Found
     requires { ⌜ Lent plan (now edges) (now atoms) (now clauses) ⌝ }
     requires { ⌜ length (now result) ≡ plan .variables ⌝ }
-    ensures { λ r. ⌜ Answers (planOf plan (now (edges .entry)) (now (atoms .entry)) (now (clauses .entry))) budget (now (result .entry)) (now (result .exit)) r ⌝ }
+    ensures { λ r. ⌜ Finds (planOf plan (now (edges .entry)) (now (atoms .entry)) (now (clauses .entry))) budget (now (result .entry)) (now (result .exit)) r ⌝ }
 {
     let index = index::index_of(clauses);
     let places = index.places;
@@ -218,7 +218,7 @@ pub fn search(
     let count = outcome.count;
     match verdict {
         Verdict::Plan => {
-            let held = outcome.plan;
+            let held = outcome.held;
             let values = held.values;
             let n = plan::wide(plan.variables);
             plan::copy(result, &values[..n]);

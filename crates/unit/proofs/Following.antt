@@ -24,7 +24,7 @@ use Rattle.plan.proofs.Lists.{le-or-lt}
 use Rattle.plan.proofs.ClauseTable.{end-some, first-clause, no-more, stands-in, begins-behind, stands-from, around-one, around-some}
 use Rattle.index.specs.Places.{Place}
 use Rattle.unit.specs.Clauses.{Ready, Says, Quiet, HasClauses, ByClauses, ClauseClash, Ends, Propagated}
-use Rattle.unit.specs.Queue.{Does, Applied, Waits, Pending, None, Leads, Tried, Known}
+use Rattle.unit.specs.Queue.{Does, Applied, Waits, Pending, None, Follows, Tried, Known}
 use Rattle.unit.specs.declared.Said.{Said}
 use Rattle.unit.specs.declared.Said.the-variants.{Clash, Gives, Nothing}
 use Rattle.unit.specs.declared.Followed.{Followed}
@@ -156,7 +156,7 @@ module _ {cs C v₀ v w q p : List ℤ} {Left : List ℤ → Type 0} {at e head 
   does-clash (Gives l) e x d = let n = d .0 in let z : _≡_ {A = ℕ} 0 1 = cc in absurd (omega arith)
   does-clash Nothing e x d = let n = d .0 in let z : _≡_ {A = ℕ} 0 1 = cc in absurd (omega arith)
 
-  pub look-clash : r .clash ≡ true → Leads cs v₀ w p head r
+  pub look-clash : r .clash ≡ true → Follows cs v₀ w p head r
   look-clash u = record {
     steps = look-steps;
     clash = λ _. clash-back (s .steps) (does-clash (a .said) u says (a .does));
@@ -183,14 +183,14 @@ module _ {cs C v₀ v w q p : List ℤ} {Left : List ℤ → Type 0} {at e head 
 
 -- all looks are done
 pub look-ends : {cs v₀ v q : List ℤ} {head end : ℕ} {Left : List ℤ → Type 0} → ByClauses cs v₀ v → Pending cs Left v q head end → ((D : List ℤ) → Left D → ⊥)
-    → Leads cs v₀ v q head (record { clash = false; end = end })
+    → Follows cs v₀ v q head (record { clash = false; end = end })
 look-ends k t none = record {
   steps = k;
   clash = λ u. let z : _≡_ {A = ℕ} 0 1 = cc in absurd (omega arith);
   goes = λ u. pending-less (λ D m x. absurd (none D x)) t;
 }
 
-pub leads-none : {cs v q : List ℤ} {head end : ℕ} → Assigned (length v) v → Pending cs None v q head end → Leads cs v v q head (record { clash = false; end = end })
+pub leads-none : {cs v q : List ℤ} {head end : ℕ} → Assigned (length v) v → Pending cs None v q head end → Follows cs v v q head (record { clash = false; end = end })
 leads-none {cs} {v} s t = look-ends (by-none cs v s) t (λ D x. x)
 
 -- the pass over the clauses, before the one that begins at `at`
@@ -211,7 +211,7 @@ module _ {cs v₀ v w q p : List ℤ} {at e end : ℕ} {r : Followed} (s : Passi
   stands : Stands cs (part cs at e) at e
   stands = record { begins = s .begins; ends = n; is = refl }
 
-  pub pass-clash : r .clash ≡ true → Leads cs v₀ w p 0 r
+  pub pass-clash : r .clash ≡ true → Follows cs v₀ w p 0 r
   pass-clash = look-clash (s .looks) stands a
 
   pub pass-more : r .clash ≡ false → Passing cs v₀ w p (r .end) (e + 1)
@@ -220,7 +220,7 @@ module _ {cs v₀ v w q p : List ℤ} {at e end : ℕ} {r : Followed} (s : Passi
     begins = begins-behind cs at e n;
   }
 
-pub pass-ends : {cs v₀ v q : List ℤ} {end at : ℕ} → Passing cs v₀ v q end at → length cs ≤ at → Leads cs v₀ v q 0 (record { clash = false; end = end })
+pub pass-ends : {cs v₀ v q : List ℤ} {end at : ℕ} → Passing cs v₀ v q end at → length cs ≤ at → Follows cs v₀ v q 0 (record { clash = false; end = end })
 pass-ends {cs} {at = at} s h = look-ends (s .looks .steps) (s .looks .pending) (λ D i. List·Memᴰ·not-nil (rw (no-more cs at h) at i))
 
 -- the clause has the number m at a place from `place` on
@@ -270,7 +270,7 @@ module _ {cs v₀ v w q p : List ℤ} {m : ℤ} {head end place start : ℕ} {r 
   stands-here : Stands cs (part cs start (stop .0)) start (stop .0)
   stands-here = stands-from b (stop .1)
 
-  pub follow-clash : r .clash ≡ true → Leads cs v₀ w p head r
+  pub follow-clash : r .clash ≡ true → Follows cs v₀ w p head r
   follow-clash = look-clash (s .looks) stands-here a
 
   pub follow-more : {next : ℕ} → Place cs (getD cs place (pos 0)) (place + 1) next → r .clash ≡ false → Following cs v₀ w p m head (r .end) next
@@ -283,11 +283,11 @@ module _ {cs v₀ v w q p : List ℤ} {m : ℤ} {head end place start : ℕ} {r 
       go D x (yes e) = inl (around-one (subst (λ k. Around cs k D) e (x .around)) (record { start = start; stop = stop .0; stands = stands-here; from = b .before; upto = stop .1 .after }))
       go D x (no n) = inr (later-on (subst (λ l. Place cs l (place + 1) next) (s .here h) f) D (x .at) (omega (arith, x .after)) (x .inside) (x .is) (x .around))
 
-pub follow-ends : {cs v₀ v q : List ℤ} {m : ℤ} {head end place : ℕ} → Following cs v₀ v q m head end place → length cs ≤ place → Leads cs v₀ v q head (record { clash = false; end = end })
+pub follow-ends : {cs v₀ v q : List ℤ} {m : ℤ} {head end place : ℕ} → Following cs v₀ v q m head end place → length cs ≤ place → Follows cs v₀ v q head (record { clash = false; end = end })
 follow-ends s h = look-ends (s .looks .steps) (s .looks .pending) (λ D x. omega (arith, x .after, x .inside))
 
 -- what several lead to
-module _ {cs u v q : List ℤ} {head : ℕ} {r : Followed} (a : Leads cs u v q head r) where
+module _ {cs u v q : List ℤ} {head : ℕ} {r : Followed} (a : Follows cs u v q head r) where
   pub leads-clash : r .clash ≡ true → Propagated cs u v true
   leads-clash e = record { steps = a .steps; ends = a .clash e }
 
@@ -299,7 +299,7 @@ module _ {cs u v q : List ℤ} {head : ℕ} {r : Followed} (a : Leads cs u v q h
       go C (inr (inl x)) = x
       go C (inr (inr x)) = absurd (omega (arith, x .from, x .upto))
 
-  pub leads-then : {w p : List ℤ} {next : ℕ} {o : Followed} → Leads cs v w p next o → o .clash ≡ false → Leads cs u w p next (record { clash = false; end = o .end })
+  pub leads-then : {w p : List ℤ} {next : ℕ} {o : Followed} → Follows cs v w p next o → o .clash ≡ false → Follows cs u w p next (record { clash = false; end = o .end })
   leads-then b e = look-ends (by-then (a .steps) (b .steps)) (b .goes e) (λ D x. x)
 
   pub propagated-then : {w : List ℤ} {b : Bool} → Propagated cs v w b → Propagated cs u w b

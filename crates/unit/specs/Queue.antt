@@ -53,7 +53,7 @@ abbrev pub None : List ℤ → Type 0
 None C = ⊥
 
 -- From v to w by what clauses give: a clash, or no clause is left but for what waits from `head` on.
-pub record Leads (cs v w p : List ℤ) (head : ℕ) (r : Followed) : Type 0 where
+pub record Follows (cs v w p : List ℤ) (head : ℕ) (r : Followed) : Type 0 where
   pub steps : ByClauses cs v w
   pub clash : r .clash ≡ true → ClauseClash cs v
   pub goes : r .clash ≡ false → Pending cs None w p head (r .end)

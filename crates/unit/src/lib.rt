@@ -8,7 +8,7 @@ ghost use Rattle.plan.specs.Ranged.{maxVariables};
 ghost use Rattle.plan.specs.Search.{Assigned, opens};
 ghost use Rattle.index.specs.Places.{Indexed};
 ghost use Rattle.unit.specs.Clauses.{Ready, Stop, SaysAt, Propagated};
-ghost use Rattle.unit.specs.Queue.{Applied, Pending, None, Leads, Known, Above, Since, Queued};
+ghost use Rattle.unit.specs.Queue.{Applied, Pending, None, Follows, Known, Above, Since, Queued};
 
 // What a clause says of an assignment.
 pub enum Said {
@@ -103,7 +103,7 @@ fn apply(
 fn pass(clauses: &[i16], values: &mut [i8], queue: &mut [i16; Assignment::MAX]) -> Followed
     requires { ⌜ Ready (now clauses) (now values) ⌝ }
     requires { ⌜ length (now queue) ≡ maxVariables ⌝ }
-    ensures { λ r. ⌜ Leads (now (clauses .entry)) (now (values .entry)) (now (values .exit)) (now (queue .exit)) 0 r ⌝ }
+    ensures { λ r. ⌜ Follows (now (clauses .entry)) (now (values .entry)) (now (values .exit)) (now (queue .exit)) 0 r ⌝ }
 {
     let mut end = 0;
     let mut at = 0;
@@ -134,7 +134,7 @@ fn follow(
     requires { ⌜ Indexed (now clauses) (now places) ⌝ }
     requires { ⌜ head < tail ⌝ }
     requires { ⌜ Pending (now clauses) None (now values) (now queue) head tail ⌝ }
-    ensures { λ r. ⌜ Leads (now (clauses .entry)) (now (values .entry)) (now (values .exit)) (now (queue .exit)) (head + 1) r ⌝ }
+    ensures { λ r. ⌜ Follows (now (clauses .entry)) (now (values .entry)) (now (values .exit)) (now (queue .exit)) (head + 1) r ⌝ }
 {
     let mut end = tail;
     let mut place = index::first_place(places, plan::opposite(queue[head]));

@@ -15,7 +15,7 @@ use native.Mathlib.Omega.{arith}
 use lib.ListN.{length, drop, drop-of-length-le}
 use Rattle.plan.specs.Tables.{edgesOf, atomsOf, atomOf}
 use Rattle.walk.specs.Hopping.{DistanceTable, Walked}
-use Rattle.judge.specs.Verdicts.{RightIn}
+use Rattle.judge.specs.Judgements.{RightIn}
 use Rattle.judge.proofs.Passing.{Passed, start, next, passed-none, passed-here}
 use Rattle.judge.proofs.first_wrong.Statement.{statement}
 use Rattle.judge.proofs.first_wrong.Tie as tie

@@ -2,7 +2,7 @@ use mathlib.Core.Path.{_≡_, subst}
 use Rattle.plan.specs.Meaning.{Atom, HasTrue}
 use Rattle.plan.specs.Tables.{edgesOf, atomsOf, clausesOf}
 use Rattle.walk.proofs.Lending.{lent-inside, lent-placed}
-use Rattle.judge.specs.Verdicts.{FirstIs, RightIn}
+use Rattle.judge.specs.Judgements.{FirstIs, RightIn}
 use Rattle.judge.specs.declared.First.{First}
 use Rattle.judge.proofs.Lending.{full-assigned, few, lent-clauses, lent-atoms}
 use borrow.Author.Needs.{needs}

@@ -1,4 +1,4 @@
--- `judge_lent`: the checks as the statement has them, then the verdict.
+-- `judge_lent`: the checks as the statement has them, then the judgement.
 use borrow.Author.Needs.{needs}
 use mathlib.Core.Path.{_≡_, _∙_, subst}
 use mathlib.Core.List.{List}
@@ -6,8 +6,8 @@ use lib.IntN.{ℤ}
 use Rattle.plan.specs.Meaning.{PlanFile}
 use Rattle.plan.specs.Judging.{Judged}
 use Rattle.plan.specs.Tables.{planOf}
-use Rattle.judge.specs.Verdicts.{verdictOf}
-use Rattle.judge.specs.declared.Verdict as verdict
+use Rattle.judge.specs.Judgements.{judgementOf}
+use Rattle.judge.specs.declared.Judgement as judgement
 use Rattle.planner.specs.Refusing.{clear, requireValues, isSet}
 use Rattle.planner.specs.Judge.{judgeChecks}
 use Rattle.planner.proofs.Stating.{meets, named, length-fails, length-holds, values-fail, values-hold, full-of}
@@ -35,7 +35,7 @@ judge-requires c κs =
     let f = c .before in
     (s f .pre, full-of (a (s f)) (f .before .if1 .left ∙ f .before .before .wide .ensures) (f .first-not .ensures) (c .if2 .left))
 
--- the values are right too: the verdict
+-- the values are right too: the judgement
 module _ (c : tie.After-judge) where
   abbrev f : tie.After-first-not
   f = c .before .before
@@ -43,8 +43,8 @@ module _ (c : tie.After-judge) where
   cleared : judgeChecks (a (s f)) (φ (s f)) ≡ clear (φ (s f))
   cleared = past f ∙ values-hold isSet (a (s f)) _ (f .first-not .ensures) (c .before .if2 .left)
 
-  judged : {v : verdict.Verdict} → c .judge .result ≡ v → Judged (φ (s f)) (a (s f)) (verdictOf v)
-  judged e = subst (λ v. Judged (φ (s f)) (a (s f)) (verdictOf v)) e (c .judge .ensures)
+  judged : {v : judgement.Judgement} → c .judge .result ≡ v → Judged (φ (s f)) (a (s f)) (judgementOf v)
+  judged e = subst (λ v. Judged (φ (s f)) (a (s f)) (judgementOf v)) e (c .judge .ensures)
 
 pub judge-lent-spec : {M : Type 1} → statement M
 judge-lent-spec =
@@ -59,5 +59,5 @@ judge-lent-spec =
     (λ c. search needs)
     (λ c. search needs)
     (λ c. let j = c .before .before in meets (cleared j) (judged j (c .enum-told .given .1)))
-    (λ c. let j = c .before .before .before in meets (cleared j) (judged j (c .before .verdict .given .1)))
-    (λ c. let j = c .before .before .before in meets (cleared j) (judged j (c .before .verdict2 .given .1))))
+    (λ c. let j = c .before .before .before in meets (cleared j) (judged j (c .before .judgement .given .1)))
+    (λ c. let j = c .before .before .before in meets (cleared j) (judged j (c .before .judgement2 .given .1))))

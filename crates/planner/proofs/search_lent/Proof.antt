@@ -5,7 +5,7 @@ use mathlib.Core.List.{List}
 use lib.IntN.{ℤ}
 use Rattle.plan.specs.Meaning.{PlanFile}
 use Rattle.plan.specs.Tables.{planOf}
-use Rattle.search.specs.Report.{Answers}
+use Rattle.search.specs.Report.{Finds}
 use Rattle.search.specs.declared.Found as found
 use Rattle.planner.specs.Refusing.{clear}
 use Rattle.planner.specs.Search.{searchChecks}
@@ -29,8 +29,8 @@ module _ (c : tie.After-search) where
   cleared : searchChecks (old s) (φ s) ≡ clear (φ s)
   cleared = length-holds (φ s) (old s) _ (c .before .before .before .wide .ensures) (c .before .before .if1 .left)
 
-  answers : {f : found.Found} → c .search .result ≡ f → Answers (φ s) (s .args .budget) (old s) (c .search .last .1 .1 .1 .1 .1 .0) f
-  answers e = subst (λ x. Answers (φ s) (s .args .budget) (old s) (c .search .last .1 .1 .1 .1 .1 .0) x) e (c .search .ensures)
+  answers : {f : found.Found} → c .search .result ≡ f → Finds (φ s) (s .args .budget) (old s) (c .search .last .1 .1 .1 .1 .1 .0) f
+  answers e = subst (λ x. Finds (φ s) (s .args .budget) (old s) (c .search .last .1 .1 .1 .1 .1 .0) x) e (c .search .ensures)
 
 pub search-lent-spec : {M : Type 1} → statement M
 search-lent-spec =

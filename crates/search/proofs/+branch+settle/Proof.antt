@@ -145,7 +145,7 @@ module _ (t : ℕ) where
     entered = begin made
 
     abbrev Left : Verdict → Type 0
-    Left v = Reported (whole entered) (add (set entered) (triedFirst (whole entered) (suc (place entered)))) (entered .args .budget) (entered .args .count + 1) v (take (n entered) (c .settle .result .plan .values)) (c .settle .result .count)
+    Left v = Reported (whole entered) (add (set entered) (triedFirst (whole entered) (suc (place entered)))) (entered .args .budget) (entered .args .count + 1) v (take (n entered) (c .settle .result .held .values)) (c .settle .result .count)
 
     left : Left (c .settle .result .verdict)
     left = report-from (whole entered) _ _ _ _ _ _ (c .settle .result .verdict) (with-it entered _ (first made) (of-first made) (is-first made) (c .before .with .result .values) (c .before .with .ensures)) (c .settle .ensures)
@@ -200,8 +200,8 @@ module _ (t : ℕ) where
       let s = c .before .before .before .before in
       let m = made s in
       let d = begin m in
-      then-side (whole d) (lent d .ranged) b (set d) (place d) k (low d) (d .args .budget) (d .args .count) (room m) (take (n d) (s .settle .result .plan .values)) (s .settle .result .count)
-      (left-none s (c .before .before .enum-told .given .1)) (c .settle2 .result .verdict) (take (n d) (c .settle2 .result .plan .values)) (c .settle2 .result .count)
+      then-side (whole d) (lent d .ranged) b (set d) (place d) k (low d) (d .args .budget) (d .args .count) (room m) (take (n d) (s .settle .result .held .values)) (s .settle .result .count)
+      (left-none s (c .before .before .enum-told .given .1)) (c .settle2 .result .verdict) (take (n d) (c .settle2 .result .held .values)) (c .settle2 .result .count)
       (report-from (whole d) _ _ _ _ _ _ (c .settle2 .result .verdict) (with-it d _ (then m) (of-then m) (is-then m) (c .before .with2 .result .values) (c .before .with2 .ensures)) (c .settle2 .ensures))
 
   branch-returns-3 : branch-lts.Need-returns-3 branch-calls branch-at branch.Post
@@ -211,7 +211,7 @@ module _ (t : ℕ) where
       let w = s .settle .result .verdict in
       let other : w ≡ Impossible → ⊥ =
       λ e. ⊎-elim (λ (p : _≡_ {A = ℕ} 1 0). omega arith) (λ (p : _≡_ {A = ℕ} 1 2). omega arith) (rw e at (c .match .keys2)) in
-      first-side (whole d) (lent d .ranged) b (set d) (place d) k (low d) (d .args .budget) (d .args .count) (room (made s)) w other (take (n d) (s .settle .result .plan .values)) (s .settle .result .count) (left s)
+      first-side (whole d) (lent d .ranged) b (set d) (place d) k (low d) (d .args .budget) (d .args .count) (room (made s)) w other (take (n d) (s .settle .result .held .values)) (s .settle .result .count) (left s)
 
   branch-closed : {M : Type 1} → branch-lts.Closed branch-calls branch-at branch.Post M
   branch-closed = branch-lts.spec branch-calls branch-at branch.Post branch-returns branch-add-literal-of branch-literal-of-requires branch-add-literal-of-2 branch-literal-of-requires-2 branch-with-requires branch-add-settle branch-add-settle-2 branch-settle-requires branch-enum-told branch-with-requires-2 branch-add-settle-3 branch-settle-requires-2 branch-returns-2 branch-returns-3

@@ -51,7 +51,7 @@ settle-requires c κs =
 -- after the search
 module _ (c : tie.After-settle) where
   abbrev held : List ℤ
-  held = take (n (c .before .before)) (c .settle .result .plan .values)
+  held = take (n (c .before .before)) (c .settle .result .held .values)
 
   searched : (v : Verdict) → c .settle .result .verdict ≡ v → Searched (whole (c .before .before)) (replicate (n (c .before .before)) (pos 0)) (begin (c .before .before) .args .budget) (verdictOf v held) (c .settle .result .count)
   searched v e =
@@ -70,7 +70,7 @@ module _ (c : tie.After-wide) where
   ended = c .before .before .before .before .before
 
   abbrev of-plan : List ℤ
-  of-plan = ended .settle .result .plan .values
+  of-plan = ended .settle .result .held .values
 
   inside : c .wide .result ≤ length of-plan
   inside = let e : length of-plan ≡ maxVariables = search needs in omega (arith, e, c .wide .ensures, begin (ended .before .before) .pre .0 .ranged .variables)

@@ -5,13 +5,13 @@ use Prim.Native.Nat.{_-_, _<_}
 use native.Mathlib.Omega.{arith}
 use borrow.Author.Needs.{needs}
 use Rattle.plan.specs.Ranged.{maxVariables}
-use Rattle.unit.specs.Queue.{Leads}
+use Rattle.unit.specs.Queue.{Follows}
 use Rattle.unit.proofs.Following.{ready-kept, leads-none, leads-clash, leads-ends, leads-then, propagated-then}
 use Rattle.unit.proofs.follow_all.Statement.{statement}
 use Rattle.unit.proofs.follow_all.Tie as tie
 
 abbrev Inv-loop : tie.InvT-loop
-Inv-loop clauses places values₀ queue₀ tail end₀ head₀ values queue end head = Leads clauses values₀ values queue head (record { clash = false; end = end })
+Inv-loop clauses places values₀ queue₀ tail end₀ head₀ values queue end head = Follows clauses values₀ values queue head (record { clash = false; end = end })
 
 abbrev μ-loop : tie.MeasureT-loop
 μ-loop clauses places values₀ queue₀ tail end₀ head₀ values queue end head = maxVariables - head

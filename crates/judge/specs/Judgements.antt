@@ -1,4 +1,4 @@
--- The answer of judging as the document's verdict, and what the inner functions promise one another.
+-- The answer of judging as the document's judgement, and what the inner functions promise one another.
 -- Assumes nothing.
 use mathlib.Core.Logic.{_↔_}
 use mathlib.Core.Bool.{Bool}
@@ -11,16 +11,16 @@ use Rattle.plan.specs.Ranged.{LiteralFits}
 use Rattle.plan.specs.Judging.{FirstWithout, plan, no-true, wrong}
 use Rattle.plan.specs.Judging as judging
 use Rattle.walk.specs.Hopping.{DistanceTable}
-use Rattle.judge.specs.declared.Verdict.{Verdict}
-use Rattle.judge.specs.declared.Verdict.the-variants.{Plan, Clause, Atom as WrongAtom}
+use Rattle.judge.specs.declared.Judgement.{Judgement}
+use Rattle.judge.specs.declared.Judgement.the-variants.{Plan, Clause, Atom as WrongAtom}
 use Rattle.judge.specs.declared.First.{First}
 use Rattle.judge.specs.declared.First.the-variants.{Nowhere, At}
 
--- The document's verdict for each case of the code's answer.
-abbrev pub verdictOf : Verdict → judging.Verdict
-verdictOf Plan = plan
-verdictOf (Clause n) = no-true n
-verdictOf (WrongAtom n) = wrong n
+-- The document's judgement for each case of the code's answer.
+abbrev pub judgementOf : Judgement → judging.Judgement
+judgementOf Plan = plan
+judgementOf (Clause n) = no-true n
+judgementOf (WrongAtom n) = wrong n
 
 -- The first element without the property P, or that each has it.
 abbrev pub FirstIs : {A : Type 0} → (A → Type 0) → List A → First → Type 0
