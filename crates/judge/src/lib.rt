@@ -1,3 +1,4 @@
+// judge: whether an assignment is a plan, and if not, the first thing that is wrong with it.
 use plan::Atom;
 use plan::Plan;
 use plan::Side;

@@ -1,3 +1,4 @@
+// plan: the types that all crates speak in (edges, atoms, kinds, refusals, assignments) and the tables they are lent in.
 pub mod clauses;
 
 ghost use mathlib.Core.Path.{_≡_};

@@ -1,3 +1,4 @@
+-- `judge::first_wrong`: atoms are passed in their order as long as each is right; the walk from an atom's node says what it should be.
 use mathlib.Core.Path.{refl, sym, subst, ap, _∙_}
 use mathlib.Core.Logic.{_↔_}
 use mathlib.Core.List.{List, _∷_}

@@ -1,3 +1,4 @@
+-- `judge::judge`: no clause without a true literal and no wrong atom is a plan; otherwise the first such clause, or the first such atom.
 use mathlib.Core.Path.{_≡_, subst}
 use Rattle.plan.specs.Meaning.{Atom, HasTrue}
 use Rattle.plan.specs.Tables.{edgesOf, atomsOf, clausesOf}

@@ -1,3 +1,4 @@
+-- `plan::copy`: number by number, so what is copied so far is the same in both.
 use borrow.Author.Needs.{needs}
 use mathlib.Core.Path.{_≡_, refl, sym, ap, _∙_}
 use mathlib.Core.List.{[], _∷_, _++_}

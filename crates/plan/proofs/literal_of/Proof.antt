@@ -1,3 +1,4 @@
+-- `plan::literal_of`: the variable itself when on, its negative when off.
 use mathlib.Core.Path.{sym, ap, _∙_}
 use borrow.Author.Needs.{needs}
 use Rattle.plan.specs.Meaning.{literalOf}

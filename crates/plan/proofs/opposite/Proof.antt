@@ -1,3 +1,4 @@
+-- `plan::opposite`: nought less the literal, which fits since the one number without a negative is excluded.
 use Rattle.plan.proofs.Signs.{sub-fits, sub-is}
 use Rattle.plan.proofs.opposite.Statement.{statement}
 use Rattle.plan.proofs.opposite.Tie as tie

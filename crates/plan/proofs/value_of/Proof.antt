@@ -1,3 +1,4 @@
+-- `plan::value_of`: the variable's value for a positive literal, its negative for a negative one.
 use mathlib.Core.Path.{_≡_, ap, _∙_}
 use Prim.Native.Nat.{_-_, _<_}
 use native.Mathlib.Omega.{arith}

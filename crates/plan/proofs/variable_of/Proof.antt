@@ -1,3 +1,4 @@
+-- `plan::variable_of`: the literal without its sign.
 use borrow.Author.Needs.{needs}
 use mathlib.Core.Path.{ap, _∙_}
 use lib.IntN.{natAbs}

@@ -1,3 +1,4 @@
+-- `walk::add_edge`: an edge that is in the graph puts its end into the set of its start; any other changes nothing.
 use mathlib.Core.Path.{sym, ap, _∙_}
 use mathlib.Core.List.{List·Memᴰ}
 use Prim.Native.Nat.{_<_}

@@ -1,3 +1,4 @@
+-- `walk::has`: the set shifted by the node ends in the node's bit.
 use mathlib.Core.Path.{sym}
 use borrow.Author.Needs.{needs}
 use Rattle.walk.proofs.Sets.{bit-shift}

@@ -1,3 +1,4 @@
+-- `walk::neighbours`: edge by edge, so the sets are those of the edges so far.
 use Prim.Native.Nat.{_-_, _≤_}
 use native.Mathlib.Numerals.{add-one}
 use native.Mathlib.Omega.{arith}

@@ -1,3 +1,4 @@
+-- `walk::visit`: the lowest node of what is left gets its count and its place in the queue, until nothing is left.
 use mathlib.Core.Path.{_≡_}
 use mathlib.Core.List.{List}
 use Prim.Native.Nat.{ℕ, suc, _+_, _*_, _-_, _%_, _^_, _<_, _≤_}

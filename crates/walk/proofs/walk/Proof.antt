@@ -1,3 +1,4 @@
+-- `walk::walk`: nodes are taken from the queue in the order of their distance, so each node's first count is its distance.
 use mathlib.Core.Path.{_≡_, refl}
 use Prim.Native.Nat.{_-_, _≤_}
 use native.Mathlib.Numerals.{add-one}

@@ -1,3 +1,4 @@
+-- `plan::Assignment::with`: the values with the literal's variable on or off, as its sign says.
 use mathlib.Core.Path.{_≡_, ap, _∙_}
 use native.Mathlib.Omega.{arith}
 use mir.Facts.{toZ-ofZ}
