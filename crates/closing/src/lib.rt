@@ -79,14 +79,6 @@ fn given(atom: Atom, holds: bool) -> i16
     plan::literal_of(plan::wide(atom.variable), holds)
 }
 
-// Whether that literal is there.
-fn is_said(atom: Atom, holds: bool, values: &[i8]) -> bool
-    requires { ⌜ AtomReady (now values) (atomOf atom) ⌝ }
-    ensures { λ r. ⌜ r ≡ trueIn (now (values .entry)) (literalOf holds (atom .variable)) ⌝ }
-{
-    plan::value_of(values, given(atom, holds)) == 1
-}
-
 // The first atom from `k` on whose literal is not there yet; `count` if there is none.
 fn next_to_say(atoms: &[u16], count: usize, k: usize, holds: bool, values: &[i8]) -> usize
     requires { ⌜ AtomsReady (now atoms) count (now values) ⌝ }
@@ -96,7 +88,7 @@ fn next_to_say(atoms: &[u16], count: usize, k: usize, holds: bool, values: &[i8]
     let mut at = k;
     while at < count {
         let atom = plan::atom_at(atoms, at);
-        if !is_said(atom, holds, values) {
+        if !plan::is_set_to(values, atom.variable, holds) {
             return at;
         }
         at += 1;
@@ -133,7 +125,7 @@ fn look_for(edges: &[u16], atoms: &[u16], count: usize, holds: bool, values: &mu
         let atom = plan::atom_at(atoms, at);
         at += 1;
         if atom.from != source {
-            if is_said(atom, holds, values) {
+            if plan::is_set_to(values, atom.variable, holds) {
                 continue;
             }
             source = atom.from;

@@ -77,9 +77,7 @@ fn is_right(atom: Atom, distances: &Distances, assignment: &[i8]) -> bool
     ensures { λ r. ⌜ RightBy (now (assignment .entry)) (atomOf atom) (now (distances .entry)) r ⌝ }
 {
     let truth = walk::is_true(atom, distances);
-    let at = plan::wide(atom.variable) - 1;
-    let value = assignment[at];
-    if value == 1 {
+    if plan::is_set_to(assignment, atom.variable, true) {
         return truth;
     }
     !truth

@@ -5,7 +5,7 @@ ghost use mathlib.Core.Path.{_≡_};
 ghost use Prim.Native.Nat.{_+_, _*_, _<_, _≤_};
 ghost use lib.IntN.{pos, negsuc, negℤ, natAbs};
 ghost use lib.ListN.{length, replicate};
-ghost use Rattle.plan.specs.Meaning.{add, edge, atom, numberOfKind, kindOf, literalOf};
+ghost use Rattle.plan.specs.Meaning.{add, edge, atom, numberOfKind, kindOf, literalOf, trueIn};
 ghost use Rattle.plan.specs.Closing.{settling};
 ghost use Rattle.plan.specs.Search.{Assigned};
 ghost use Rattle.plan.specs.Ranged.{LiteralFits};
@@ -189,6 +189,17 @@ pub fn value_of(values: &[i8], literal: i16) -> i8
     let at = variable_of(literal) - 1;
     let value = values[at];
     if literal > 0 { value } else { -value }
+}
+
+// Whether a variable is set to a value: on or off.
+pub fn is_set_to(values: &[i8], variable: u16, sign: bool) -> bool
+    requires { ⌜ 1 ≤ variable ⌝ }
+    requires { ⌜ variable ≤ length (now values) ⌝ }
+    ensures { λ r. ⌜ r ≡ trueIn (now (values .entry)) (literalOf sign variable) ⌝ }
+{
+    let at = wide(variable) - 1;
+    let value = if sign { 1 } else { -1 };
+    values[at] == value
 }
 
 // Adds one literal to a lent assignment.

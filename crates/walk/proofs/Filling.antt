@@ -2,52 +2,38 @@
 -- Assumes nothing.
 use mathlib.Core.Path.{_≡_, refl, sym, ap, subst, _∙_}
 use mathlib.Core.Logic.{_⊎_, inl, inr, ⊎-elim}
-use mathlib.Core.Bool.{not}
+use mathlib.Core.Bool.{Bool, true, false, not, Bool·beq}
 use mathlib.Core.List.{List}
-use Prim.Native.Nat.{ℕ, zero, suc, _-_, _^_, _<_, _≤_}
+use Prim.Native.Nat.{ℕ, suc, _^_, _<_, _≤_}
 use native.Mathlib.Decide.{ℕ-discrete, decLt}
 use native.Mathlib.Omega.{arith}
 use lib.Bits.{bitOr}
 use lib.ListN.{length, getD, set, length-set, replicate}
 use lib.Seq.{getD-set-same, getD-set-other}
-use lib.IntN.{ℤ, pos}
-use lib.Dec.{T, eqb, eqb→eq}
-use mir.Syntax.{w8}
-use mir.Val.{SFits, ofZ}
-use Rattle.plan.specs.Meaning.{Edge, Graph, edge, value, isOn, isOff, trueIn, on, off}
-use Rattle.plan.proofs.Add.{on-one, off-one}
-use Rattle.plan.proofs.Bools.{T-same, or-cases, or-left, or-right}
-use Rattle.plan.proofs.Signs.{bits-eq}
+use lib.Dec.{T}
+use Rattle.plan.specs.Meaning.{Edge, Graph, Literals, edge, literalOf, graphOf}
+use Rattle.plan.specs.declared.Side.{Side}
+use Rattle.plan.specs.declared.Side.the-variants.{Under, Over}
+use Rattle.plan.proofs.Bools.{or-cases, or-left, or-right}
 use Rattle.walk.specs.Hopping.{bit, Neighbours}
 use Rattle.walk.specs.Front.{LeadsBelow, UpTo}
 use Rattle.walk.proofs.Sets.{zeros, bit-empty, bit-or, bit-one}
 
 -- ---- whether an edge is in the graph
 
--- a value's test, of its bits
-off-bits : (z : ℤ) → SFits w8 z → eqb (ofZ w8 z) 255 ≡ isOff z
-off-bits z f = T-same _ _
-    (λ t. subst (λ x. T (isOff x)) (sym (bits-eq w8 z 255 f (eqb→eq _ _ t))) tt)
-    (λ t. subst (λ x. T (eqb (ofZ w8 x) 255)) (sym (off-one z t)) tt)
+beq-true : (r : Bool) → Bool·beq r true ≡ r
+beq-true true = refl
+beq-true false = refl
 
-on-bits : (z : ℤ) → SFits w8 z → eqb (ofZ w8 z) 1 ≡ isOn z
-on-bits z f = T-same _ _
-    (λ t. subst (λ x. T (isOn x)) (sym (bits-eq w8 z 1 f (eqb→eq _ _ t))) tt)
-    (λ t. subst (λ x. T (eqb (ofZ w8 x) 1)) (sym (on-one z t)) tt)
+beq-false : (r : Bool) → Bool·beq r false ≡ not r
+beq-false true = refl
+beq-false false = refl
 
-pub is-on : (a : List ℤ) (v w : ℕ) → w ≡ v → 1 ≤ v → SFits w8 (getD a (w - 1) (pos 0)) → eqb (ofZ w8 (getD a (w - 1) (pos 0))) 1 ≡ trueIn a (on v)
-unfolding trueIn value
-is-on a zero w e l f = absurd (omega arith)
-is-on a (suc i) w e l f =
-    let p : w - 1 ≡ i = omega arith in
-    on-bits (getD a (w - 1) (pos 0)) f ∙ ap (λ (k : ℕ). isOn (getD a k (pos 0))) p
-
-pub is-not-off : (a : List ℤ) (v w : ℕ) → w ≡ v → 1 ≤ v → SFits w8 (getD a (w - 1) (pos 0)) → not (eqb (ofZ w8 (getD a (w - 1) (pos 0))) 255) ≡ not (trueIn a (off v))
-unfolding trueIn value
-is-not-off a zero w e l f = absurd (omega arith)
-is-not-off a (suc i) w e l f =
-    let p : w - 1 ≡ i = omega arith in
-    ap not (off-bits (getD a (w - 1) (pos 0)) f ∙ ap (λ (k : ℕ). isOff (getD a k (pos 0))) p)
+-- the one comparison, by the side
+pub present : (side : Side) (b r : Bool) (S : Literals) (e : Edge) → ((side ≡ Under) × (b ≡ true)) ⊎ ((side ≡ Over) × (b ≡ false))
+    → r ≡ S (literalOf b (e .variable)) → Bool·beq r b ≡ graphOf side S e
+present side b r S e (inl x) h = rw (x .0, x .1) (beq-true r ∙ rw (x .1) at h)
+present side b r S e (inr x) h = rw (x .0, x .1) (beq-false r ∙ ap not (rw (x .1) at h))
 
 -- ---- one edge more
 

@@ -4,10 +4,10 @@ use mathlib.Core.Path.{_≡_, refl, sym, ap, _∙_, subst}
 use mathlib.Core.Logic.{_≢_, _↔_}
 use mathlib.Core.Bool.{not, _&&_, _||_}
 use Prim.Native.Nat.{ℕ, zero, suc, _+_, _*_, _-_, _/_, _%_, _^_, _<_, _≤_, min, max}
-use native.Mathlib.Nat.{pow-suc, div-div-eq-div-mul}
+use native.Mathlib.Nat.{pow-suc, div-div-eq-div-mul, zero-min, min-zero}
 use native.Mathlib.Omega.{arith}
 use borrow.Author.Tests.{eq-eqb, ne-eqb}
-use lib.Bits.{bitAnd, bitOr, and-step, or-step}
+use lib.Bits.{bitAnd, bitOr, and-step, and-self, or-step}
 use lib.Count.{trailingZeros, under}
 use lib.ListN.{getD, replicate}
 use lib.Dec.{T, eqb, eqb→eq}
@@ -139,6 +139,28 @@ pub bit-le : (i x : ℕ) → T (bit i x) → 2 ^ i ≤ x
 unfolding bit
 bit-le zero x t = omega (arith, odd x t)
 bit-le (suc i) x t = omega (arith, twice i, bit-le i (x / 2) t)
+
+-- the set without it, as a bitwise and
+double-less : (x p q : ℕ) → x % 2 ≡ 0 → q ≡ 2 * p → p ≤ x / 2 → (x / 2 - p) * 2 + 0 ≡ x - q
+double-less x p q e d l = omega arith
+
+pub less-lowest : (k x : ℕ) → x < 2 ^ k → x ≢ 0 → bitAnd x (x - 1) ≡ x - 2 ^ trailingZeros k x
+unfolding trailingZeros
+less-lowest zero x f n = absurd (n (omega arith))
+less-lowest (suc k) x f n = and-step x (x - 1) ∙ go (x % 2) refl (λ m. less-lowest k (x / 2) (omega (arith, twice k)) m)
+  where
+    go : (d : ℕ) → x % 2 ≡ d → (x / 2 ≢ 0 → bitAnd (x / 2) (x / 2 - 1) ≡ x / 2 - 2 ^ trailingZeros k (x / 2))
+        → bitAnd (x / 2) ((x - 1) / 2) * 2 + min (x % 2) ((x - 1) % 2) ≡ x - 2 ^ under (x % 2) (trailingZeros k (x / 2))
+    go zero e r =
+        let t = trailingZeros k (x / 2) in
+        let m : x / 2 ≢ 0 = λ z. n (omega arith) in
+        let h : (x - 1) / 2 ≡ x / 2 - 1 = omega (arith, m) in
+        let z : min (x % 2) ((x - 1) % 2) ≡ 0 = rw e (zero-min _) in
+        rw (under-even (x % 2) t e, h, r m, z) (double-less x (2 ^ t) (2 ^ suc t) e (twice t) (bit-le t (x / 2) (lowest k (x / 2) (omega (arith, twice k)) m)))
+    go (suc d) e r =
+        let h : (x - 1) / 2 ≡ x / 2 = omega arith in
+        let l : (x - 1) % 2 ≡ 0 = omega arith in
+        rw (under-odd (x % 2) (trailingZeros k (x / 2)) (omega arith), h, and-self (x / 2), l, min-zero (x % 2)) (omega arith)
 
 half-less : (i x : ℕ) → T (bit i (x / 2)) → (x - 2 ^ suc i) / 2 ≡ x / 2 - 2 ^ i
 half-less i x t = omega (arith, twice i, bit-le i (x / 2) t)

@@ -28,18 +28,18 @@ pub fn has(set: u64, node: usize) -> bool
     (set >> node) % 2 == 1
 }
 
-// Whether an edge is in the graph: on in the under graph, not off in the over graph.
+// Whether an edge is in the graph: on in the under graph, not off in the over graph. One comparison serves both, so that a loop over the
+// edges finds out before its first turn with what to compare.
 pub fn is_present(values: &[i8], edge: Edge, side: Side) -> bool
     requires { ⌜ 1 ≤ edge .variable ⌝ }
     requires { ⌜ edge .variable ≤ length (now values) ⌝ }
     ensures { λ r. ⌜ r ≡ graphOf side (trueIn (now (values .entry))) (edgeOf edge) ⌝ }
 {
-    let at = plan::wide(edge.variable) - 1;
-    let value = values[at];
-    match side {
-        Side::Under => value == 1,
-        Side::Over => value != -1,
-    }
+    let under = match side {
+        Side::Under => true,
+        Side::Over => false,
+    };
+    plan::is_set_to(values, edge.variable, under) == under
 }
 
 // Adds the edge numbered `k`, from 0, to the sets where it is in the graph.
@@ -89,7 +89,7 @@ fn visit(new: u64, count: u8, tail: usize, counts: &mut Distances, queue: &mut [
         counts[node] = count;
         queue[end] = node as u8;
         end += 1;
-        rest = rest - (1u64 << node);
+        rest = rest & (rest - 1);
     }
     end
 }

@@ -121,12 +121,12 @@ module _ (c : tie.After-atom-at2 Inv-loop μ-loop) where
   less = omega (arith, its-place)
 
 -- it is passed by where its literal is there
-module _ (c : tie.After-is-said Inv-loop μ-loop) where
+module _ (c : tie.After-is-set-to Inv-loop μ-loop) where
   abbrev asked : tie.After-atom-at2 Inv-loop μ-loop
   asked = c .before .before .before .before
 
-  there : c .is-said .result ≡ true → T (trueIn (turn asked .loop .values) (literalOf (begun (turn asked) .args .holds) (this asked .variable)))
-  there = so (c .is-said .ensures ∙ ap (λ (A : Atom). trueIn (turn asked .loop .values) (literalOf (begun (turn asked) .args .holds) (A .variable))) (asked .atom-at2 .ensures))
+  there : c .is-set-to .result ≡ true → T (trueIn (turn asked .loop .values) (literalOf (begun (turn asked) .args .holds) (this asked .variable)))
+  there = so (c .is-set-to .ensures ∙ ap (λ (A : Atom). trueIn (turn asked .loop .values) (literalOf (begun (turn asked) .args .holds) (A .variable))) (asked .atom-at2 .ensures))
 
 loop-again : tie.Need-loop-again Inv-loop μ-loop
 loop-again c =
@@ -228,7 +228,7 @@ look-for-spec =
     tie.close
     (tie.spec
     Inv-loop μ-loop (λ c κs. (ready-atoms (c .before .before .before .pre), omega arith)) (λ c. search needs) returns (λ c κs. tt) neighbours-requires atom-at-requires (λ c κs. tt) walk-requires loop-holds
-    (λ c κs. omega (arith, begun (c .before) .pre .long, c .loop-test .taken)) add-at (λ c κs. atom-ready (c .before .before .before)) (λ c. less (asked (c .before))) loop-again (λ c κs. tt) walk-requires-2
+    (λ c κs. omega (arith, begun (c .before) .pre .long, c .loop-test .taken)) add-at (λ c κs. let f = atom-ready (c .before .before .before) .fits in (f .low, f .high)) (λ c. less (asked (c .before))) loop-again (λ c κs. tt) walk-requires-2
     (λ c κs. atom-ready (seen (c .before .before)))
     (λ c. search needs) same-length-2 returns-2
     (λ c. search needs) (λ c. less (seen (joined (c .before .before .before)))) loop-again-2

@@ -25,13 +25,14 @@ loop-holds c = let h = c .before .pre .1 in (omega arith, omega arith, without-n
 atom-at-requires : tie.Need-atom-at-requires Inv-loop μ-loop
 atom-at-requires c κs = omega (arith, c .before .before .before .pre .0 .long, c .loop-test .taken)
 
-is-said-requires : tie.Need-is-said-requires Inv-loop μ-loop
-is-said-requires c κs =
+is-set-to-requires : tie.Need-is-set-to-requires Inv-loop μ-loop
+is-set-to-requires c κs =
     let b = c .before .before .before .before in
-    subst (AtomReady (b .args .values .now)) (sym (c .atom-at .ensures)) (b .pre .0 .each _ (c .before .loop-test .taken))
+    let f = subst (AtomReady (b .args .values .now)) (sym (c .atom-at .ensures)) (b .pre .0 .each _ (c .before .loop-test .taken)) .fits in
+    (f .low, f .high)
 
 -- whether the atom at the place has its literal
-module _ (c : tie.After-is-said Inv-loop μ-loop) where
+module _ (c : tie.After-is-set-to Inv-loop μ-loop) where
   abbrev turn : tie.At-loop Inv-loop μ-loop
   turn = c .before .before .before
 
@@ -41,8 +42,8 @@ module _ (c : tie.After-is-said Inv-loop μ-loop) where
   abbrev unsaid : ℕ → Type 0
   unsaid = Unsaid (begin .args .atoms .now) (begin .args .holds) (begin .args .values .now)
 
-  is : c .is-said .result ≡ trueIn (begin .args .values .now) (literalOf (begin .args .holds) (atom (atomsOf (begin .args .atoms .now)) (turn .loop .at) .variable))
-  is = c .is-said .ensures ∙ ap (λ (A : Atom). trueIn (begin .args .values .now) (literalOf (begin .args .holds) (A .variable))) (c .before .atom-at .ensures)
+  is : c .is-set-to .result ≡ trueIn (begin .args .values .now) (literalOf (begin .args .holds) (atom (atomsOf (begin .args .atoms .now)) (turn .loop .at) .variable))
+  is = c .is-set-to .ensures ∙ ap (λ (A : Atom). trueIn (begin .args .values .now) (literalOf (begin .args .holds) (A .variable))) (c .before .atom-at .ensures)
 
 returns : tie.Need-returns Inv-loop μ-loop
 returns c =
@@ -62,5 +63,5 @@ returns-2 c = let i = c .before .loop .inv in first-end _ (i .0) (omega (arith, 
 pub next-to-say-spec : {M : Type 1} → statement M
 next-to-say-spec =
     tie.close
-    (tie.spec Inv-loop μ-loop loop-holds atom-at-requires is-said-requires returns
+    (tie.spec Inv-loop μ-loop loop-holds atom-at-requires is-set-to-requires returns
     (λ c. let h = c .before .before .before .loop-test .taken in search needs) (λ c. omega (arith, c .before .before .before .loop-test .taken)) loop-again returns-2)

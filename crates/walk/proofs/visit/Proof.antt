@@ -1,15 +1,16 @@
 -- `walk::visit`: the lowest node of what is left gets its count and its place in the queue, until nothing is left.
 use mathlib.Core.Path.{_≡_}
 use mathlib.Core.List.{List}
-use Prim.Native.Nat.{ℕ, suc, _+_, _*_, _-_, _%_, _^_, _<_, _≤_}
+use Prim.Native.Nat.{ℕ, suc, _+_, _-_, _^_, _<_, _≤_}
 use native.Mathlib.Omega.{arith}
+use lib.Bits.{bitAnd}
 use lib.ListN.{length, length-set}
 use lib.Count.{trailingZeros}
 use lib.Dec.{T}
 use lib.Pow.{pow-pos}
 use Rattle.walk.specs.Hopping.{bit}
 use Rattle.walk.specs.Front.{size, Visited}
-use Rattle.walk.proofs.Sets.{bit-inside, bit-le, one-shifted, lowest, size-less}
+use Rattle.walk.proofs.Sets.{bit-inside, bit-le, lowest, less-lowest, size-less}
 use Rattle.walk.proofs.Visits.{visited-none, visited-more}
 use Rattle.walk.proofs.visit.Statement.{statement}
 use Rattle.walk.proofs.visit.Tie as tie
@@ -30,8 +31,8 @@ module _ (c : tie.In-loop Inv-loop μ-loop) where
   inside : trailingZeros 64 (c .before .loop .rest) < 64
   inside = bit-inside 64 (trailingZeros 64 (c .before .loop .rest)) (c .before .loop .rest) (c .before .loop .inv .1) in-rest
 
-  shifted : (1 * 2 ^ trailingZeros 64 (c .before .loop .rest)) % 18446744073709551616 ≡ 2 ^ trailingZeros 64 (c .before .loop .rest)
-  shifted = one-shifted (trailingZeros 64 (c .before .loop .rest)) inside
+  without : bitAnd (c .before .loop .rest) (c .before .loop .rest - 1) ≡ c .before .loop .rest - 2 ^ trailingZeros 64 (c .before .loop .rest)
+  without = less-lowest 64 (c .before .loop .rest) (c .before .loop .inv .1) (c .loop-test .taken)
 
   smaller : size (c .before .loop .rest) ≡ suc (size (c .before .loop .rest - 2 ^ trailingZeros 64 (c .before .loop .rest)))
   smaller = size-less 64 (trailingZeros 64 (c .before .loop .rest)) (c .before .loop .rest) inside in-rest
@@ -54,18 +55,15 @@ element-write-queue c = omega (arith, smaller c)
 add-end : tie.Need-add-end Inv-loop μ-loop
 add-end c = omega (arith, smaller c)
 
-shl-rest : tie.Need-shl-rest Inv-loop μ-loop
-shl-rest c = inside c
-
 sub-rest : tie.Need-sub-rest Inv-loop μ-loop
-sub-rest c = omega (arith, shifted c, bit-le (trailingZeros 64 (c .before .loop .rest)) (c .before .loop .rest) (in-rest c))
+sub-rest c = omega (arith, c .loop-test .taken)
 
 loop-less : tie.Need-loop-less Inv-loop μ-loop
-loop-less c = omega (arith, shifted c, pow-pos (trailingZeros 64 (c .before .loop .rest)), bit-le (trailingZeros 64 (c .before .loop .rest)) (c .before .loop .rest) (in-rest c))
+loop-less c = omega (arith, without c, pow-pos (trailingZeros 64 (c .before .loop .rest)), bit-le (trailingZeros 64 (c .before .loop .rest)) (c .before .loop .rest) (in-rest c))
 
 loop-again : tie.Need-loop-again Inv-loop μ-loop
 loop-again c =
-    rw (shifted c) (
+    rw (without c) (
       omega (arith, smaller c),
       omega arith,
       simp length-set (c .before .loop .inv .2),
@@ -89,7 +87,6 @@ visit-spec =
     cast-queue
     element-write-queue
     add-end
-    shl-rest
     sub-rest
     loop-less
     loop-again
