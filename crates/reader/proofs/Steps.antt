@@ -1,15 +1,15 @@
 -- What each record leads to, told by the counts and the tables: the tests that the code makes are the definition's.
 -- Assumes nothing.
-use Rattle.reader.proofs.Kit.{_≡_, refl, sym, ap, _∙_, Bool, true, false, not, _&&_, and-eq-true-iff, List, [], _∷_, _++_, append-assoc, ℕ, _+_, _*_, _/_, _≤_, arith, leb-true, ltb, leb, eqb, ℤ, pos, length, take}
+use Rattle.reader.proofs.Kit.{_≡_, refl, sym, ap, _∙_, Bool, true, false, not, _&&_, and-eq-true-iff, List, [], _∷_, _++_, append-assoc, ℕ, _+_, _*_, _/_, _≤_, arith, leb-true, eq-eqb, ne-eqb, ltb, leb, eqb, ℤ, pos, length, take}
 use Rattle.plan.specs.Meaning.{PlanFile}
 use Rattle.plan.specs.Ranged.{maxEdges, maxAtoms, maxClauses, maxLiterals, literals}
 use Rattle.plan.specs.Written.{flat}
 use Rattle.plan.specs.declared.Plan as counted
-use Rattle.plan.specs.declared.Refusal.the-variants.{BadLength, OutOfRange, TooMany, Shared}
+use Rattle.plan.specs.declared.Refusal.the-variants.{Misplaced, BadLength, OutOfRange, TooMany, Shared}
 use Rattle.reader.specs.declared.Step as code
-use Rattle.reader.specs.declared.Step.the-variants.{Refuse}
-use Rattle.reader.specs.Format.{Step, next, inOrder, word, lenAt, after, fits, edgeOk, atomOk, literalsOk, clauseLen, edgeIn, kindIn, atomIn, clauseIn, literalsIn, addEdge, addAtom, addClause, emptyPlan, edgeAt, atomAt, clauseAt}
-use Rattle.reader.specs.Filling.{Steps, refuses, Tables, Filled, lastIs, rowsOf, edgeRow, atomRow}
+use Rattle.reader.specs.declared.Step.the-variants.{Refuse, Done}
+use Rattle.reader.specs.Format.{Step, next, inOrder, word, lenAt, after, fits, edgeOk, atomOk, literalsOk, clauseLen, edgeIn, kindIn, atomIn, clauseIn, literalsIn, addEdge, addAtom, addClause, emptyPlan, edgeAt, atomAt, clauseAt, endAt}
+use Rattle.reader.specs.Filling.{Steps, refuses, ends, Tables, Filled, lastIs, rowsOf, edgeRow, atomRow}
 use Rattle.reader.proofs.Rows.{uses-edges, uses-atoms, rows-more, flat-clause, count-clause, length-snoc, literals-length}
 
 -- a record that fits ends in the file
@@ -119,3 +119,17 @@ module _ (f : List ℕ) (at : ℕ) {p : PlanFile} {c : counted.Plan} {es bs : Li
         clauses = one-more flat (λ C. C ++ (pos 0 ∷ [])) flat-clause (clauseIn f at) (t .clauses) (rw (m, ← e, ← append-assoc) h);
         literals = count-clause (p .clauses) (clauseIn f at) ∙ simp (t .literals, literals-length, e);
       }
+
+  -- the end record: nothing in it and nothing behind it
+  pub end-long : (lenAt f at ≡ 0 → ⊥) → Steps es bs cs (endAt f at p) (Refuse (BadLength at))
+  unfolding endAt
+  end-long n = rw (ne-eqb _ 0 n) (refuses refl refl)
+
+  module _ (z : lenAt f at ≡ 0) where
+    pub end-behind : (length f ≡ at + 3 → ⊥) → Steps es bs cs (endAt f at p) (Refuse (Misplaced (at + 3)))
+    unfolding endAt
+    end-behind n = rw (eq-eqb _ 0 z, ne-eqb _ _ n) (refuses refl refl)
+
+    pub end-here : length f ≡ at + 3 → Steps es bs cs (endAt f at p) (Done c)
+    unfolding endAt
+    end-here e = rw (eq-eqb _ 0 z, eq-eqb _ _ e) (ends t)

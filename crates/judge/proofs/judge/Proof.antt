@@ -1,10 +1,13 @@
 -- `judge::judge`: no clause without a true literal and no wrong atom is a plan; otherwise the first such clause, or the first such atom.
 use mathlib.Core.Path.{_≡_, subst}
+use Prim.Native.Nat.{ℕ}
 use Rattle.plan.specs.Meaning.{Atom, HasTrue}
-use Rattle.plan.specs.Tables.{edgesOf, atomsOf, clausesOf}
+use Rattle.plan.specs.Judging.{Judged, wrong}
+use Rattle.plan.specs.Tables.{edgesOf, atomsOf, clausesOf, planOf}
 use Rattle.walk.proofs.Lending.{lent-inside, lent-placed}
 use Rattle.judge.specs.Judgements.{FirstIs, RightIn}
 use Rattle.judge.specs.declared.First.{First}
+use Rattle.judge.specs.declared.First.the-variants.{At, Nowhere}
 use Rattle.judge.proofs.Lending.{full-assigned, few, lent-clauses, lent-atoms}
 use borrow.Author.Needs.{needs}
 use Rattle.judge.proofs.judge.Statement.{statement}
@@ -48,6 +51,10 @@ module _ (c : tie.After-first-wrong) where
   atom-is : (r : First) → c .first-wrong .result ≡ r → FirstIs Right (atomsOf (begin judged .args .atoms .now)) r
   atom-is r e = subst (FirstIs Right (atomsOf (begin judged .args .atoms .now))) e (c .first-wrong .ensures)
 
+  wrong-atom : (n : ℕ) → judged .first-untrue .result ≡ Nowhere → c .first-wrong .result ≡ At n
+      → Judged (planOf (begin judged .args .plan) (begin judged .args .edges .now) (begin judged .args .atoms .now) (begin judged .args .clauses .now)) (begin judged .args .assignment .now) (wrong n)
+  wrong-atom n e f = (clause-is judged Nowhere e, atom-is (At n) f)
+
 enum-known-atom : tie.Need-enum-known-atom
 enum-known-atom c = search needs
 
@@ -55,7 +62,7 @@ enum-told-2 : tie.Need-enum-told-2
 enum-told-2 c = search needs
 
 returns-2 : tie.Need-returns-2
-returns-2 c = let d = c .before .before .before in (clause-is (judged d) _ (d .before .enum-told .given .1), atom-is d _ (c .before .atom .given .1))
+returns-2 c = let d = c .before .before .before in wrong-atom d _ (d .before .enum-told .given .1) (c .before .atom .given .1)
 
 returns-3 : tie.Need-returns-3
 returns-3 c =

@@ -12,6 +12,8 @@ use Rattle.plan.specs.Meaning.{PlanFile}
 use Rattle.plan.specs.Search.{Assigned, CloseIs}
 use Rattle.plan.specs.Tables.{planOf}
 use Rattle.closing.specs.Closed.{closedOf}
+use Rattle.planner.specs.declared.CloseAnswer.the-variants.{Clash}
+use Rattle.planner.specs.Close.{CloseCase}
 use Rattle.planner.proofs.close_into.Statement.{statement}
 use Rattle.planner.proofs.close_into.Tie as tie
 
@@ -67,6 +69,9 @@ module _ (c : tie.After-close) where
   kept : (rest : List ℤ) → take (length (g (at-start at-copy))) (closed ++ rest) ≡ closed
   kept rest = take-at closed rest _ long
 
+  clashes : c .close .result ≡ true → CloseCase (φ (at-start at-copy)) (g (at-start at-copy)) (at-start at-copy .args .result .now) (at-start at-copy .args .result .now) Clash
+  clashes e = (closes true e, refl)
+
 copy-requires-2 : tie.Need-copy-requires-2
 copy-requires-2 c κs =
     let d = c .before .before .before .before in
@@ -89,7 +94,7 @@ close-into-spec =
     (λ c. simp length-append (omega (arith, ap length (copied (c .before)))))
     (λ c. sym (ap length (front (c .before .before) _)))
     close-requires
-    (λ c. (closes (c .before .before) true (c .if1 .taken), refl))
+    (λ c. clashes (c .before .before) (c .if1 .taken))
     (λ c. simp length-append (omega (arith, long (c .before .before .before))))
     (λ c. let d = c .before .before .before .before in sym (ap length (kept d _) ∙ long d))
     copy-requires-2
