@@ -78,3 +78,14 @@ all-open-is n a h e = ap (take n) e ∙ take-same n maxVariables h
 
 pub all-open-shape : (n : ℕ) → Assigned n (replicate n (pos 0))
 all-open-shape n = record { long = length-replicate n (pos 0); each = λ i h. inr (inr (each-open n i)) }
+
+-- the first places of all open, as they are lent: w is the number of variables, made wide
+pub record Opened (variables w : ℕ) (a : List ℤ) : Type 0 where
+  pub room : w ≤ length a
+  pub cut : w ≡ length (take w a)
+  pub shape : Assigned variables (take w a)
+
+pub opened : (n w : ℕ) (a : List ℤ) → n ≤ maxVariables → w ≡ n → a ≡ replicate maxVariables (pos 0) → Opened n w a
+opened n w a h e o =
+    let s : Assigned n (take w a) = subst (Assigned n) (sym (ap (λ k. take k a) e ∙ all-open-is n a h o)) (all-open-shape n) in
+    record { room = omega (arith, ap length o ∙ length-replicate maxVariables (pos 0)); cut = e ∙ sym (s .long); shape = s }

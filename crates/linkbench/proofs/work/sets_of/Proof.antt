@@ -1,14 +1,8 @@
 -- `linkbench::work::sets_of` is safe and ends: the reader guarantees what the neighbours need.
 -- Assumes nothing.
-use mathlib.Core.Path.{_≡_, sym, _∙_}
-use mathlib.Core.List.{List}
-use Prim.Native.Nat.{_≤_}
-use native.Mathlib.Omega.{arith}
 use borrow.Author.Needs.{needs}
-use lib.IntN.{ℤ}
-use lib.ListN.{length, take}
-use lib.Seq.{length-take-le}
 use Rattle.walk.proofs.Lending.{lent-inside, lent-placed}
+use Rattle.search.proofs.Firsts.{Opened, opened}
 use Rattle.linkbench.proofs.work.sets_of.Statement.{statement}
 use Rattle.linkbench.proofs.work.sets_of.Tie as tie
 
@@ -17,24 +11,13 @@ module _ (c : tie.After-wide) where
   abbrev begin : tie.Start
   begin = c .before .before .before .before .before
 
-  abbrev opened : List ℤ
-  opened = c .before .before .all-open .result .values
-
-  few : begin .args .plan .variables ≤ 512
-  few = begin .pre .ranged .variables
-
-  inside : c .wide .result ≤ length opened
-  inside =
-      let long : length opened ≡ 512 = search needs in
-      omega (arith, few, long, c .wide .ensures)
-
-  long-enough : length (take (c .wide .result) opened) ≡ begin .args .plan .variables
-  long-enough = length-take-le _ _ inside ∙ c .wide .ensures
+  front : Opened (begin .args .plan .variables) (c .wide .result) (c .before .before .all-open .result .values)
+  front = opened _ _ _ (begin .pre .ranged .variables) (c .wide .ensures) (c .before .before .all-open .ensures)
 
 neighbours-requires : tie.Need-neighbours-requires
 neighbours-requires c κs =
     let d = c .before in
-    (lent-inside (begin d .pre), lent-placed (begin d .pre) _ (long-enough d))
+    (lent-inside (begin d .pre), lent-placed (begin d .pre) _ (front d .shape .long))
 
 pub sets-of-spec : {M : Type 1} → statement M
 sets-of-spec =
@@ -42,7 +25,7 @@ sets-of-spec =
     (tie.spec
     (λ c κs. search needs)
     (λ c κs. search needs)
-    (λ c. inside c)
-    (λ c. sym (length-take-le _ _ (inside (c .before))))
+    (λ c. front c .room)
+    (λ c. front (c .before) .cut)
     neighbours-requires
     (λ c. search needs))
