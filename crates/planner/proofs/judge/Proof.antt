@@ -1,8 +1,5 @@
 -- `judge`: the reader's refusal is the call's, and what is accepted is judged in the used parts of the tables.
-use borrow.Author.Needs.{needs}
-use Rattle.reader.specs.Filling.{Room}
-use Rattle.reader.proofs.Cutting.{Parts, room, parts}
-use Rattle.planner.proofs.Stating.{named, when-refused, when-accepted}
+use Rattle.planner.proofs.Shell.{needs, Room, Parts, room, parts, named, when-refused, when-accepted}
 use Rattle.planner.proofs.judge.Statement.{statement}
 use Rattle.planner.proofs.judge.Tie as tie
 
@@ -20,13 +17,8 @@ module _ (c : tie.After-used-clauses) where
 pub judge-spec : {M : Type 1} → statement M
 judge-spec =
     tie.close
-    (tie.spec
-    (λ c κs. search needs)
-    (λ c. search needs)
-    (λ c. search needs)
-    (λ c κs. fits (c .before .before))
-    (λ c κs. fits (c .before .before .before .before))
-    (λ c κs. fits (c .before .before .before .before .before .before))
+    (tie.spec (λ c κs. search needs) (λ c. search needs) (λ c. search needs)
+    (λ c κs. fits (c .before .before)) (λ c κs. fits (c .before .before .before .before)) (λ c κs. fits (c .before .before .before .before .before .before))
     (λ c κs. used c .lent)
     (λ c. when-refused _ _ _ _ _ (c .before .before .before .read-into .ensures) (c .before .reading .given .1) (named _))
     (λ c. when-accepted _ _ (used (c .before) .reads) (c .judge-lent .ensures)))
