@@ -1,5 +1,3 @@
-pub mod Fronts
-pub mod Filling
 pub mod Numbers
 pub mod Tabled
 pub mod Rows

@@ -14,10 +14,10 @@ use Rattle.plan.specs.Written.{flat, blocks, written, lastVariable}
 use Rattle.encoding.proofs.Each.{flat-append}
 use Rattle.encoding.proofs.Sizes.{numbers-own, counted, small}
 use Rattle.clauses.specs.declared.Counts.{Counts}
-use Rattle.clauses.specs.Front.{Room, Put}
+use Rattle.plan.specs.Front.{Room, Put}
 use Rattle.clauses.specs.Rows.{LowBlocks}
 use Rattle.clauses.specs.Writing.{WrittenOut, TooShort, Added, Countable}
-use Rattle.clauses.proofs.Fronts.{put-as, put-then}
+use Rattle.plan.proofs.Fronts.{put-as, put-then}
 
 module _ {p : Plan} {edges atoms : List ℕ} {clauses : List ℤ} (lent : Lent p edges atoms clauses)
     {nodes variables : ℕ} (n-is : nodes ≡ p .nodes) (v-is : variables ≡ p .variables) where

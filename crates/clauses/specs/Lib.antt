@@ -1,3 +1,2 @@
-pub mod Front
 pub mod Rows
 pub mod Writing

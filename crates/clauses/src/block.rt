@@ -11,7 +11,7 @@ use plan::wide;
 ghost use Prim.Native.Nat.{_≤_};
 ghost use Rattle.plan.specs.Ranged.{maxNodes};
 ghost use Rattle.plan.specs.Tables.{edgesOf};
-ghost use Rattle.clauses.specs.Front.{Room, Put};
+ghost use Rattle.plan.specs.Front.{Room, Put};
 ghost use Rattle.clauses.specs.Rows.{Fits, Early, aloneRow, endRow, edgesRow, nodesRow, levelRow, levelsRow, startRow, blockRow, Low, LowBlock};
 
 // The first numbers of a level of a block: those of its R, of its T, and of the next level's R.

@@ -14,7 +14,7 @@ ghost use Prim.Native.Nat.{_≤_, min};
 ghost use lib.ListN.{length};
 ghost use Rattle.plan.specs.Tables.{edgesOf, atomsOf, atomOf, planOf, Lent};
 ghost use Rattle.plan.specs.Written.{flat, levels, blockVariables, blockClauses, blockNumbers, blocks};
-ghost use Rattle.clauses.specs.Front.{Room, Put};
+ghost use Rattle.plan.specs.Front.{Room, Put};
 ghost use Rattle.clauses.specs.Rows.{LowBlocks};
 ghost use Rattle.encoding.specs.Counts.{InLimits};
 ghost use Rattle.clauses.specs.Writing.{Writes, Added, AddedOne, Few, Countable};

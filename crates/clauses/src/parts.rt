@@ -12,7 +12,7 @@ ghost use lib.ListN.{length};
 ghost use Rattle.plan.specs.Meaning.{edge, on, off};
 ghost use Rattle.plan.specs.Ranged.{maxEdges};
 ghost use Rattle.plan.specs.Tables.{edgesOf};
-ghost use Rattle.clauses.specs.Front.{Room, Put};
+ghost use Rattle.plan.specs.Front.{Room, Put};
 ghost use Rattle.clauses.specs.Rows.{Fits, Early, givesRow, edgeRow, literalRow, intoRow, literalsRow, intosRow, nodeRow};
 
 // The variable's literal.

@@ -19,3 +19,5 @@ pub mod Cases
 pub mod Refusals
 pub mod Places
 pub mod ClauseTable
+pub mod Fronts
+pub mod Filling

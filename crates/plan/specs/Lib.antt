@@ -7,6 +7,7 @@ pub mod Reason
 pub mod Written
 pub mod Tables
 pub mod Buffers
+pub mod Front
 pub mod Places
 pub mod ClauseTable
 pub mod Refusals

@@ -43,7 +43,7 @@ use Rattle.planner.proofs.Demand3 as demand-3
 
 -- Demand 1: every call ends, stays inside the lent buffers, and answers or refuses with 01's number; a refusal changes no buffer; no call has
 -- a `requires`. That is the functions' own proofs. "Every buffer then keeps its bytes": where a call meets a refusal, its statement says this.
-pub refusal-keeps : {A : Type 0} {refuse : Refusal → A} {C : PlanFile → Type 0} {n v : ℕ} {before after : List ℤ} {r : A} → KeepingBy (refusal n v) refuse C before after r
+pub refusal-keeps : {A B : Type 0} {refuse : Refusal → A} {C : PlanFile → Type 0} {n v : ℕ} {before after : List B} {r : A} → KeepingBy (refusal n v) refuse C before after r
     → Refuses refuse n v r × (after ≡ before)
 refusal-keeps h = h .case
 

@@ -54,8 +54,8 @@ one-refuses : {A : Type 0} {refused : Refusal → A} {n v : ℕ} {r s : A} → R
 one-refuses {refused = refused} {n = n} {v = v} h k = h .is ∙ ap refused (one-name n v (h .why) (k .why) (h .names) (k .names)) ∙ sym (k .is)
 
 -- no second answer with its buffer fits
-abbrev pub OneLeft : {A : Type 0} → (List ℤ → A → Type 0) → Type 0
-OneLeft {A} Is = (after after′ : List ℤ) (r s : A) → Is after r → Is after′ s → (r ≡ s) × (after ≡ after′)
+abbrev pub OneLeft : {A B : Type 0} → (List B → A → Type 0) → Type 0
+OneLeft {A} {B} Is = (after after′ : List B) (r s : A) → Is after r → Is after′ s → (r ≡ s) × (after ≡ after′)
 
 -- x is what an outcome tells that Leads
 pub record Told {O X : Type 0} (Leads : O → Type 0) (tell : O → X) (x : X) : Type 0 where
@@ -77,7 +77,7 @@ module _ {A O : Type 0} (refused : Refusal → A) (Leads : PlanFile → O → Ty
       go (clear φ) x y = one-told φ tell (led φ r x) (led φ s y)
 
   -- a call with one
-  unique-left : (tell : O → A × List ℤ) (before : List ℤ) (C : A → List ℤ → PlanFile → Type 0) → ((φ : PlanFile) (r : A) (after : List ℤ) → C r after φ → Told (Leads φ) tell (r, after)) → {m : Met}
+  unique-left : {B : Type 0} (tell : O → A × List B) (before : List B) (C : A → List B → PlanFile → Type 0) → ((φ : PlanFile) (r : A) (after : List B) → C r after φ → Told (Leads φ) tell (r, after)) → {m : Met}
       → OneLeft (λ after r. KeepingBy m refused (C r after) before after r)
   unique-left tell before C led {m} after after′ r s h k = go m (h .case) (k .case)
     where
@@ -86,7 +86,7 @@ module _ {A O : Type 0} (refused : Refusal → A) (Leads : PlanFile → O → Ty
       go (refusal n v) x y = (one-refuses (x .0) (y .0), x .1 ∙ sym (y .1))
       go (clear φ) x y = let e = one-told φ tell (led φ r after x) (led φ s after′ y) in (ap (λ z. z .0) e, ap (λ z. z .1) e)
 
-kept : {A : Type 0} {r : A} {before after : List ℤ} → after ≡ before → _≡_ {A = A × List ℤ} (r, after) (r, before)
+kept : {A B : Type 0} {r : A} {before after : List B} → after ≡ before → _≡_ {A = A × List B} (r, after) (r, before)
 kept {r = r} e = ap (λ z. (r, z)) e
 
 -- ---- read

@@ -81,5 +81,5 @@ pub record By (m : Met) (R : ℕ → ℕ → Type 0) (C : PlanFile → Type 0) :
   pub case : Case R C m
 
 -- "Every buffer then keeps its bytes": a call with a lent buffer, before and after.
-abbrev pub KeepingBy : {A : Type 0} → Met → (Refusal → A) → (PlanFile → Type 0) → List ℤ → List ℤ → A → Type 0
+abbrev pub KeepingBy : {A B : Type 0} → Met → (Refusal → A) → (PlanFile → Type 0) → List B → List B → A → Type 0
 KeepingBy m refuse C before after r = By m (λ n v. Refuses refuse n v r × Kept before after) C

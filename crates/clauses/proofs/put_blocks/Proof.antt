@@ -7,8 +7,8 @@ use lib.ListN.{length}
 use Rattle.plan.specs.Meaning.{Edge, Atom}
 use Rattle.plan.specs.Tables.{edgesOf, atomsOf, atomOf}
 use Rattle.plan.specs.Written.{each, flat, blocks, blockVariables, last}
-use Rattle.clauses.proofs.Filling.{Filling, filling-start, filling-room, filling-turn, filling-end}
-use Rattle.clauses.proofs.Fronts.{put-as, room-as, rest-length, room-tail, put-tail}
+use Rattle.plan.proofs.Filling.{Filling, filling-start, filling-room, filling-turn, filling-end}
+use Rattle.plan.proofs.Fronts.{put-as, room-as, rest-length, room-tail, put-tail}
 use Rattle.clauses.proofs.Stepping.{before, piece, blocks-each, Turn, next-row, next-before, next-last, next-low, next-limits}
 use Rattle.clauses.proofs.Tabled.{atom-place}
 use Rattle.clauses.proofs.put_blocks.Statement.{statement}

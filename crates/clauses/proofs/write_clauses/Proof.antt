@@ -1,7 +1,7 @@
 -- The counts say whether there is room; then the file's own clauses are written, and the blocks behind them.
 use mathlib.Core.Path.{_≡_}
 use native.Mathlib.Omega.{arith}
-use Rattle.clauses.proofs.Fronts.{room-first, room-rest}
+use Rattle.plan.proofs.Fronts.{room-first, room-rest}
 use Rattle.clauses.proofs.Whole.{countable, low, room, too-short, written-out}
 use Rattle.clauses.proofs.write_clauses.Statement.{statement}
 use Rattle.clauses.proofs.write_clauses.Tie as tie

@@ -2,7 +2,7 @@
 use native.Mathlib.Omega.{arith}
 use borrow.Author.Tests.{eq-eqb, ne-eqb}
 use Rattle.clauses.specs.Rows.{aloneRow}
-use Rattle.clauses.proofs.Fronts.{put-then}
+use Rattle.plan.proofs.Fronts.{put-then}
 use Rattle.clauses.proofs.block.put_alone.Statement.{statement}
 use Rattle.clauses.proofs.block.put_alone.Tie as tie
 

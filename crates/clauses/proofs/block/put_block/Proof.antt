@@ -6,9 +6,9 @@ use native.Mathlib.Omega.{arith}
 use lib.IntN.{ℤ}
 use Rattle.plan.specs.Meaning.{Edge}
 use Rattle.plan.specs.Tables.{edgesOf}
-use Rattle.clauses.specs.Front.{Room}
+use Rattle.plan.specs.Front.{Room}
 use Rattle.clauses.specs.Rows.{Early, startRow, levelsRow, endRow, blockRow}
-use Rattle.clauses.proofs.Fronts.{room-first, room-rest, room-as, put-as, put-then}
+use Rattle.plan.proofs.Fronts.{room-first, room-rest, room-as, put-as, put-then}
 use Rattle.clauses.proofs.block.put_block.Statement.{statement}
 use Rattle.clauses.proofs.block.put_block.Tie as tie
 

@@ -5,7 +5,7 @@ use lib.ListN.{length}
 use Rattle.plan.specs.Meaning.{edge}
 use Rattle.plan.specs.Tables.{edgesOf}
 use Rattle.clauses.specs.Rows.{edgeRow, edgesRow}
-use Rattle.clauses.proofs.Filling.{Filling, filling-start, filling-room, filling-turn, filling-end}
+use Rattle.plan.proofs.Filling.{Filling, filling-start, filling-room, filling-turn, filling-end}
 use Rattle.clauses.proofs.block.put_edges.Statement.{statement}
 use Rattle.clauses.proofs.block.put_edges.Tie as tie
 

@@ -1,7 +1,7 @@
 -- Two clauses, number by number.
 use native.Mathlib.Omega.{arith}
 use Rattle.clauses.specs.Rows.{givesRow, endRow}
-use Rattle.clauses.proofs.Fronts.{put-then}
+use Rattle.plan.proofs.Fronts.{put-then}
 use Rattle.clauses.proofs.block.put_end.Statement.{statement}
 use Rattle.clauses.proofs.block.put_end.Tie as tie
 

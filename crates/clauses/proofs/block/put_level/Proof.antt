@@ -1,7 +1,7 @@
 -- The edges, and the nodes behind them.
 use native.Mathlib.Omega.{arith}
 use Rattle.clauses.specs.Rows.{levelRow}
-use Rattle.clauses.proofs.Fronts.{room-first, room-rest, put-then}
+use Rattle.plan.proofs.Fronts.{room-first, room-rest, put-then}
 use Rattle.clauses.proofs.block.put_level.Statement.{statement}
 use Rattle.clauses.proofs.block.put_level.Tie as tie
 

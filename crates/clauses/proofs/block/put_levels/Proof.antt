@@ -8,8 +8,8 @@ use lib.ListN.{length}
 use Rattle.plan.specs.Meaning.{Edge}
 use Rattle.plan.specs.Tables.{edgesOf}
 use Rattle.clauses.specs.Rows.{Early, levelRow, firstAt, levelFrom, levelsRow}
-use Rattle.clauses.proofs.Filling.{Filling, filling-start, filling-room, filling-turn, filling-end}
-use Rattle.clauses.proofs.Fronts.{put-as, room-as}
+use Rattle.plan.proofs.Filling.{Filling, filling-start, filling-room, filling-turn, filling-end}
+use Rattle.plan.proofs.Fronts.{put-as, room-as}
 use Rattle.clauses.proofs.Rows.{level-low}
 use Rattle.clauses.proofs.block.put_levels.Statement.{statement}
 use Rattle.clauses.proofs.block.put_levels.Tie as tie

@@ -3,7 +3,7 @@ use Prim.Native.Nat.{_+_, _-_}
 use native.Mathlib.Omega.{arith}
 use Rattle.plan.specs.Tables.{edgesOf}
 use Rattle.clauses.specs.Rows.{nodeRow, nodesRow}
-use Rattle.clauses.proofs.Filling.{Filling, filling-start, filling-room, filling-turn, filling-end}
+use Rattle.plan.proofs.Filling.{Filling, filling-start, filling-room, filling-turn, filling-end}
 use Rattle.clauses.proofs.block.put_nodes.Statement.{statement}
 use Rattle.clauses.proofs.block.put_nodes.Tie as tie
 

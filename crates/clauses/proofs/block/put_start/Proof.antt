@@ -2,7 +2,7 @@
 use Prim.Native.Nat.{_+_, _-_}
 use native.Mathlib.Omega.{arith}
 use Rattle.clauses.specs.Rows.{aloneRow, startRow}
-use Rattle.clauses.proofs.Filling.{Filling, filling-start, filling-room, filling-turn, filling-end}
+use Rattle.plan.proofs.Filling.{Filling, filling-start, filling-room, filling-turn, filling-end}
 use Rattle.clauses.proofs.block.put_start.Statement.{statement}
 use Rattle.clauses.proofs.block.put_start.Tie as tie
 

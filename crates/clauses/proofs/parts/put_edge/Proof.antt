@@ -6,7 +6,7 @@ use borrow.Author.Needs.{needs}
 use Rattle.plan.specs.Meaning.{edge}
 use Rattle.plan.specs.Tables.{edgesOf}
 use Rattle.clauses.specs.Rows.{givesRow, andRow, edgeRow}
-use Rattle.clauses.proofs.Fronts.{put-as, put-then}
+use Rattle.plan.proofs.Fronts.{put-as, put-then}
 use Rattle.clauses.proofs.Tabled.{edge-place}
 use Rattle.clauses.proofs.parts.put_edge.Statement.{statement}
 use Rattle.clauses.proofs.parts.put_edge.Tie as tie

@@ -1,7 +1,7 @@
 -- Three numbers, one behind the other.
 use native.Mathlib.Omega.{arith}
 use Rattle.clauses.specs.Rows.{givesRow}
-use Rattle.clauses.proofs.Fronts.{put-then}
+use Rattle.plan.proofs.Fronts.{put-then}
 use Rattle.clauses.proofs.parts.put_gives.Statement.{statement}
 use Rattle.clauses.proofs.parts.put_gives.Tie as tie
 

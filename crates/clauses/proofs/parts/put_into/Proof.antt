@@ -3,7 +3,7 @@ use mathlib.Core.Path.{sym, _∙_}
 use native.Mathlib.Omega.{arith}
 use borrow.Author.Needs.{needs}
 use Rattle.clauses.specs.Rows.{intoRow}
-use Rattle.clauses.proofs.Fronts.{put-none}
+use Rattle.plan.proofs.Fronts.{put-none}
 use Rattle.clauses.proofs.parts.put_into.Statement.{statement}
 use Rattle.clauses.proofs.parts.put_into.Tie as tie
 

@@ -5,7 +5,7 @@ use native.Mathlib.Omega.{arith}
 use lib.ListN.{length}
 use Rattle.plan.specs.Tables.{edgesOf}
 use Rattle.clauses.specs.Rows.{givesRow, literalsRow, intosRow, nodeRow}
-use Rattle.clauses.proofs.Fronts.{put-then}
+use Rattle.plan.proofs.Fronts.{put-then}
 use Rattle.clauses.proofs.Rows.{node-size}
 use Rattle.clauses.proofs.parts.put_node.Statement.{statement}
 use Rattle.clauses.proofs.parts.put_node.Tie as tie

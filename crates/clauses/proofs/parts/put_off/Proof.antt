@@ -5,7 +5,7 @@ use native.Mathlib.Omega.{arith}
 use borrow.Author.Needs.{needs}
 use mir.Syntax.{w32}
 use mir.Val.{SFits, toZ, ofZ}
-use Rattle.clauses.proofs.Fronts.{put-as, put-one}
+use Rattle.plan.proofs.Fronts.{put-as, put-one}
 use Rattle.clauses.proofs.Numbers.{off-fits, kept-off, minus-is}
 use Rattle.clauses.proofs.parts.put_off.Statement.{statement}
 use Rattle.clauses.proofs.parts.put_off.Tie as tie

@@ -5,7 +5,7 @@ use mathlib.Core.List.{[], _∷_}
 use mathlib.Core.Path.{ap}
 use mir.Syntax.{w32}
 use mir.Val.{toZ}
-use Rattle.clauses.proofs.Fronts.{put-as, put-one}
+use Rattle.plan.proofs.Fronts.{put-as, put-one}
 use Rattle.clauses.proofs.Numbers.{kept-on}
 use Rattle.clauses.proofs.parts.put_on.Statement.{statement}
 use Rattle.clauses.proofs.parts.put_on.Tie as tie

@@ -2,7 +2,7 @@
 use native.Mathlib.Omega.{arith}
 use borrow.Author.Needs.{needs}
 use lib.IntN.{pos}
-use Rattle.clauses.proofs.Fronts.{put-one}
+use Rattle.plan.proofs.Fronts.{put-one}
 use Rattle.clauses.proofs.parts.put_zero.Statement.{statement}
 use Rattle.clauses.proofs.parts.put_zero.Tie as tie
 
