@@ -1,10 +1,10 @@
--- A variable's number as an i32, and its opposite; a literal of the file as an i32.
+-- A variable's number as an i32, and its opposite.
 -- Assumes nothing.
-use mathlib.Core.Path.{_≡_, sym, _∙_, ap, subst}
+use mathlib.Core.Path.{_≡_, _∙_, ap}
 use Prim.Native.Nat.{ℕ, zero, suc}
 use native.Mathlib.Omega.{arith}
-use lib.IntN.{ℤ, pos, negℤ, _-ℤ_, +ℤ-idl}
-use mir.Syntax.{w16, w32}
+use lib.IntN.{pos, negℤ, _-ℤ_, +ℤ-idl}
+use mir.Syntax.{w32}
 use mir.Val.{SFits, toZ, ofZ}
 use mir.Facts.{toZ-ofZ}
 use Rattle.clauses.specs.Rows.{Fits}
@@ -22,13 +22,3 @@ kept-off v l = toZ-ofZ (off-fits v l)
 -- the code's -(v as i32)
 pub minus-is : (v : ℕ) → Fits v → toZ w32 0 -ℤ toZ w32 v ≡ negℤ (pos v)
 minus-is v l = ap (λ z. toZ w32 0 -ℤ z) (kept-on v l) ∙ +ℤ-idl (negℤ (pos v))
-
--- an i16 as an i32
-wider : (z : ℤ) → SFits w16 z → SFits w32 z
-wider z f = record { sfits = omega (arith, f .sfits) }
-
-pub wide-fits : (z : ℤ) → SFits w16 z → SFits w32 (toZ w16 (ofZ w16 z))
-wide-fits z f = subst (SFits w32) (sym (toZ-ofZ f)) (wider z f)
-
-pub wide-kept : (z : ℤ) → SFits w16 z → toZ w32 (ofZ w32 (toZ w16 (ofZ w16 z))) ≡ z
-wide-kept z f = ap (λ y. toZ w32 (ofZ w32 y)) (toZ-ofZ f) ∙ toZ-ofZ (wider z f)

@@ -14,7 +14,7 @@ use Rattle.plan.specs.Written.{each, flat, R, U, into, startClauses, edgeClause
 use Rattle.encoding.proofs.Each.{flat-append, flat-each}
 use Rattle.clauses.specs.Rows.{Early, givesRow, andRow, edgeRow, literalRow, intoRow, aloneRow, endRow, edgesRow, literalsRow, intosRow, nodeRow, nodesRow, levelRow, firstAt, levelFrom, levelsRow, startRow, blockRow, LowBlock}
 
-each-same : {A : Type 0} (n : ℕ) (f g : ℕ → List A) → ((k : ℕ) → f k ≡ g k) → each n f ≡ each n g
+pub each-same : {A : Type 0} (n : ℕ) (f g : ℕ → List A) → ((k : ℕ) → f k ≡ g k) → each n f ≡ each n g
 each-same n f g e = ap (each n) (fun-ext e)
 
 flat-if : (b : Bool) (C : List ℤ) → flat (cond b (C ∷ []) []) ≡ cond b (C ++ (pos 0 ∷ [])) []
@@ -80,7 +80,7 @@ module _ (n : ℕ) (es : List Edge) (base : ℕ) where
       ∙ ap₂ (λ r q. flat (nodeOver es (λ k. first i + n + k) r q w)) (R-is i w) (R-next i w)
       ∙ node-row es (first i + n) (first i + w) (first i + (n + length es) + w) w
 
-  level-is : (i : ℕ) → flat (levelClauses n es base i) ≡ levelRow es n (levelFrom es n (first i))
+  pub level-is : (i : ℕ) → flat (levelClauses n es base i) ≡ levelRow es n (levelFrom es n (first i))
   unfolding levelClauses levelRow edgesRow nodesRow
   level-is i =
       flat-append (each (length es) (edgeClauses n es base i)) (each n (nodeClauses n es base i))

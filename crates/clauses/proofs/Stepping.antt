@@ -19,7 +19,7 @@ use Rattle.clauses.specs.Rows.{Early, blockRow, LowBlock, LowBlocks}
 use Rattle.clauses.specs.Writing.{Added, AddedOne, Few, Countable}
 use Rattle.clauses.proofs.Rows.{atom-is}
 
-each-first : {A : Type 0} (n : ℕ) (f : ℕ → List A) → each (suc n) f ≡ f 0 ++ each n (λ i. f (suc i))
+pub each-first : {A : Type 0} (n : ℕ) (f : ℕ → List A) → each (suc n) f ≡ f 0 ++ each n (λ i. f (suc i))
 unfolding each
 each-first zero f = sym (append-nil (f 0))
 each-first (suc n) f = ap (λ l. l ++ f (suc n)) (each-first n f) ∙ append-assoc (f 0) (each n (λ i. f (suc i))) (f (suc n))

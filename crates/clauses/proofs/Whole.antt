@@ -1,8 +1,8 @@
 -- The tables that are lent, their counts, and the whole list.
 -- Assumes nothing.
-use mathlib.Core.Path.{_≡_, refl, sym, _∙_, ap, ap₂, subst}
+use mathlib.Core.Path.{_≡_, sym, _∙_, ap, ap₂, subst}
 use mathlib.Core.List.{List, _++_}
-use Prim.Native.Nat.{ℕ, _+_, _≤_, _<_}
+use Prim.Native.Nat.{ℕ, _+_, _≤_}
 use native.Mathlib.Omega.{arith}
 use lib.IntN.{ℤ}
 use lib.ListN.{length}
@@ -16,7 +16,7 @@ use Rattle.encoding.proofs.Sizes.{numbers-own, counted, small}
 use Rattle.clauses.specs.declared.Counts.{Counts}
 use Rattle.plan.specs.Front.{Room, Put}
 use Rattle.clauses.specs.Rows.{LowBlocks}
-use Rattle.clauses.specs.Writing.{WrittenOut, TooShort, Added, Countable}
+use Rattle.clauses.specs.Writing.{Counting, WrittenOut, Added, Countable}
 use Rattle.plan.proofs.Fronts.{put-as, put-then}
 
 module _ {p : Plan} {edges atoms : List ℕ} {clauses : List ℤ} (lent : Lent p edges atoms clauses)
@@ -28,7 +28,7 @@ module _ {p : Plan} {edges atoms : List ℕ} {clauses : List ℤ} (lent : Lent p
   own = record { variables = variables; clauses = p .clauses; numbers = length clauses }
 
   -- the numbers of the blocks
-  abbrev behind : List ℤ
+  abbrev pub behind : List ℤ
   behind = flat (blocks nodes (edgesOf edges) variables (atomsOf atoms))
 
   -- the table holds the literals and a 0 for each clause
@@ -62,26 +62,19 @@ module _ {p : Plan} {edges atoms : List ℕ} {clauses : List ℤ} (lent : Lent p
       ∙ ap (λ l. l ++ flat (blocks (p .nodes) (edgesOf edges) (p .variables) (atomsOf atoms))) (sym (lent .ended))
       ∙ sym (flat-append (clausesOf clauses) (blocks (p .nodes) (edgesOf edges) (p .variables) (atomsOf atoms)))
 
-  module _ {counts : Counts} (added : Added nodes (length (edgesOf edges)) (atomsOf atoms) own counts) where
-    at-nodes : Added (p .nodes) (length (edgesOf edges)) (atomsOf atoms) own counts
-    at-nodes = subst (λ n. Added n (length (edgesOf edges)) (atomsOf atoms) own counts) n-is added
+  pub counting : {counts : Counts} → Added nodes (length (edgesOf edges)) (atomsOf atoms) own counts → Counting φ counts
+  counting {counts} added =
+      let a = subst (λ n. Added n (length (edgesOf edges)) (atomsOf atoms) own counts) n-is added in
+      let c = counted φ (lent .ranged) in
+      record {
+        variables = omega (arith, a .variables, v-is, c .variables);
+        clauses = omega (arith, a .clauses, lent .clauses, c .clauses);
+        numbers = omega (arith, a .numbers, table-length, c .numbers);
+      }
 
-    numbers-are : counts .numbers ≡ length (flat (written φ))
-    numbers-are = omega (arith, at-nodes .numbers, table-length, counted φ (lent .ranged) .numbers)
-
+  module _ {counts : Counts} (is : Counting φ counts) where
     pub room : {out : List ℤ} → counts .numbers ≤ length out → Room (clauses ++ behind) 0 out
-    room h = record { fits = omega (arith, numbers-are, ap length whole-is) }
-
-    pub too-short : {out : List ℤ} → length out < counts .numbers → TooShort φ out out (counts .numbers)
-    too-short h = record { numbers = numbers-are; room = h; kept = refl }
+    room h = record { fits = omega (arith, is .numbers, ap length whole-is) }
 
     pub written-out : {old mid new : List ℤ} {a b : ℕ} → counts .numbers ≤ length old → Put clauses 0 old mid a → Put behind a mid new b → WrittenOut φ old new counts
-    written-out h first second =
-        let c = counted φ (lent .ranged) in
-        record {
-          variables = omega (arith, at-nodes .variables, v-is, c .variables);
-          clauses = omega (arith, at-nodes .clauses, lent .clauses, c .clauses);
-          numbers = numbers-are;
-          room = omega (arith, numbers-are);
-          is = put-as whole-is (put-then first second) .is;
-        }
+    written-out h first second = record { counted = is; room = omega (arith, is .numbers); is = put-as whole-is (put-then first second) .is }

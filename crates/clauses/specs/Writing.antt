@@ -14,11 +14,15 @@ use Rattle.clauses.specs.declared.Counts.{Counts}
 use Rattle.clauses.specs.declared.Writing.{Writing}
 use Rattle.clauses.specs.declared.Writing.the-variants.{Written, Short}
 
--- "with the counts of variables, clauses and numbers"; "A written answer fills its first places; the rest stays."
-pub record WrittenOut (φ : PlanFile) (before after : List ℤ) (counts : Counts) : Type 0 where
+-- "with the counts of variables, clauses and numbers"
+pub record Counting (φ : PlanFile) (counts : Counts) : Type 0 where
   pub variables : counts .variables ≡ lastVariable φ
   pub clauses : counts .clauses ≡ length (written φ)
   pub numbers : counts .numbers ≡ length (flat (written φ))
+
+-- "A written answer fills its first places; the rest stays."
+pub record WrittenOut (φ : PlanFile) (before after : List ℤ) (counts : Counts) : Type 0 where
+  pub counted : Counting φ counts
   pub room : length (flat (written φ)) ≤ length before
   pub is : Wrote (flat (written φ)) before after
 

@@ -62,7 +62,7 @@ fn put_nodes(out: &mut [i32], at: usize, edges: &[u16], nodes: usize, level: Lev
 }
 
 // The clauses of one level.
-fn put_level(out: &mut [i32], at: usize, edges: &[u16], nodes: usize, level: Level) -> usize
+pub fn put_level(out: &mut [i32], at: usize, edges: &[u16], nodes: usize, level: Level) -> usize
     requires { ⌜ Room (levelRow (edgesOf (now edges)) nodes level) at (now out) ⌝ }
     requires { ⌜ Low (edgesOf (now edges)) level ⌝ }
     requires { ⌜ nodes ≤ maxNodes ⌝ }
@@ -117,7 +117,7 @@ fn put_alone(out: &mut [i32], at: usize, w: usize, source: usize, variable: usiz
 }
 
 // The clauses of level 0, whose R start at `first`.
-fn put_start(out: &mut [i32], at: usize, nodes: usize, source: usize, first: usize) -> usize
+pub fn put_start(out: &mut [i32], at: usize, nodes: usize, source: usize, first: usize) -> usize
     requires { ⌜ Room (startRow nodes source first) at (now out) ⌝ }
     requires { ⌜ (nodes ≤ maxNodes) × Early first ⌝ }
     ensures { λ r. ⌜ Put (startRow nodes source first) at (now (out .entry)) (now (out .exit)) r ⌝ }
@@ -132,7 +132,7 @@ fn put_start(out: &mut [i32], at: usize, nodes: usize, source: usize, first: usi
 }
 
 // The two clauses that make the atom's variable a that of the last level, v.
-fn put_end(out: &mut [i32], at: usize, a: usize, v: usize) -> usize
+pub fn put_end(out: &mut [i32], at: usize, a: usize, v: usize) -> usize
     requires { ⌜ Room (endRow a v) at (now out) ⌝ }
     requires { ⌜ Fits a × Fits v ⌝ }
     ensures { λ r. ⌜ Put (endRow a v) at (now (out .entry)) (now (out .exit)) r ⌝ }

@@ -2,8 +2,12 @@
 mod block;
 mod parts;
 
+pub use block::Level;
 use block::put_block;
-use parts::edge_count;
+pub use block::put_end;
+pub use block::put_level;
+pub use block::put_start;
+pub use parts::edge_count;
 use plan::Atom;
 use plan::Kind;
 use plan::Plan;
@@ -17,7 +21,7 @@ ghost use Rattle.plan.specs.Written.{flat, levels, blockVariables, blockClauses
 ghost use Rattle.plan.specs.Front.{Room, Put};
 ghost use Rattle.clauses.specs.Rows.{LowBlocks};
 ghost use Rattle.encoding.specs.Counts.{InLimits};
-ghost use Rattle.clauses.specs.Writing.{Writes, Added, AddedOne, Few, Countable};
+ghost use Rattle.clauses.specs.Writing.{Counting, Writes, Added, AddedOne, Few, Countable};
 
 // How much is written.
 pub struct Counts {
@@ -42,7 +46,7 @@ fn lesser(a: usize, b: usize) -> usize
 }
 
 // How many levels an atom's block has.
-fn levels_of(nodes: usize, atom: Atom) -> usize
+pub fn levels_of(nodes: usize, atom: Atom) -> usize
     requires { ⌜ 1 ≤ nodes ⌝ }
     ensures { λ r. ⌜ r ≡ levels nodes (atomOf atom) ⌝ }
 {
@@ -55,13 +59,13 @@ fn levels_of(nodes: usize, atom: Atom) -> usize
 }
 
 // How many atoms an atom table holds.
-fn atom_count(atoms: &[u16]) -> usize
+pub fn atom_count(atoms: &[u16]) -> usize
     ensures { λ r. ⌜ r ≡ length (atomsOf (now (atoms .entry))) ⌝ }
 {
     atoms.len() / Atom::NUMBERS
 }
 
-fn block_variables(nodes: usize, edges: usize, top: usize) -> usize
+pub fn block_variables(nodes: usize, edges: usize, top: usize) -> usize
     requires { ⌜ InLimits nodes edges top ⌝ }
     ensures { λ r. ⌜ r ≡ blockVariables nodes edges top ⌝ }
 {
@@ -160,6 +164,19 @@ fn put_own(out: &mut [i32], clauses: &[i16]) -> usize
     i
 }
 
+// How many variables, clauses and numbers the file has when it is written out.
+pub fn counts_of(plan: Plan, edges: &[u16], atoms: &[u16], clauses: &[i16]) -> Counts
+    requires { ⌜ Lent plan (now edges) (now atoms) (now clauses) ⌝ }
+    ensures { λ r. ⌜ Counting (planOf plan (now (edges .entry)) (now (atoms .entry)) (now (clauses .entry))) r ⌝ }
+{
+    let own = Counts {
+        variables: wide(plan.variables),
+        clauses: plan.clauses,
+        numbers: clauses.len(),
+    };
+    with_blocks(own, edges, atoms, wide(plan.nodes))
+}
+
 // The file as clauses at the front of `out`, or, where that is too short, the length needed and `out` as it was.
 pub fn write_clauses(
     plan: Plan,
@@ -171,18 +188,13 @@ pub fn write_clauses(
     requires { ⌜ Lent plan (now edges) (now atoms) (now clauses) ⌝ }
     ensures { λ r. ⌜ Writes (planOf plan (now (edges .entry)) (now (atoms .entry)) (now (clauses .entry))) (now (out .entry)) (now (out .exit)) r ⌝ }
 {
-    let nodes = wide(plan.nodes);
-    let variables = wide(plan.variables);
-    let own = Counts {
-        variables: variables,
-        clauses: plan.clauses,
-        numbers: clauses.len(),
-    };
-    let counts = with_blocks(own, edges, atoms, nodes);
+    let counts = counts_of(plan, edges, atoms, clauses);
     let needed = counts.numbers;
     if out.len() < needed {
         return Writing::Short(needed);
     }
+    let nodes = wide(plan.nodes);
+    let variables = wide(plan.variables);
     let end = put_own(out, clauses);
     put_blocks(out, end, edges, atoms, nodes, variables);
     Writing::Written(counts)

@@ -14,6 +14,7 @@ pub mod Explain
 pub mod Tables
 pub mod Values
 pub mod Signs
+pub mod Flipped
 pub mod Literals
 pub mod Cases
 pub mod Refusals

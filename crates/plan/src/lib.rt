@@ -155,6 +155,18 @@ pub fn opposite(literal: i16) -> i16
     -literal
 }
 
+// A number without its sign, which fits for -2,147,483,648 too.
+pub fn magnitude(value: i32) -> u32
+    ensures { λ r. ⌜ r ≡ natAbs value ⌝ }
+{
+    if value < 0 {
+        let below = -1 - value;
+        below as u32 + 1
+    } else {
+        value as u32
+    }
+}
+
 // The variable of a literal.
 pub fn variable_of(literal: i16) -> usize
     requires { ⌜ (literal ≡ negsuc 32767 → ⊥) ⌝ }

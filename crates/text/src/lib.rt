@@ -2,10 +2,9 @@
 //
 // A function here takes the buffer and the place of the next byte and hands back the place behind what it appended. A full
 // buffer is written to standard output, and filling goes on at its front; `flush` writes the rest.
-ghost use mathlib.Core.Path.{_≡_};
-ghost use lib.IntN.{natAbs};
 use plan::Plan;
 use plan::Refusal;
+use plan::magnitude;
 
 // The length of the buffer.
 pub const SIZE: usize = 4096;
@@ -55,19 +54,7 @@ pub fn signed(out: &mut [u8; SIZE], at: usize, value: i32) -> usize {
     if value < 0 {
         next = byte(out, at, b'-');
     }
-    number(out, next, magnitude(value))
-}
-
-// A number without its sign, which fits for -2,147,483,648 too.
-fn magnitude(value: i32) -> u64
-    ensures { λ r. ⌜ r ≡ natAbs value ⌝ }
-{
-    if value < 0 {
-        let below = -1 - value;
-        below as u64 + 1
-    } else {
-        value as u64
-    }
+    number(out, next, magnitude(value) as u64)
 }
 
 // A blank and a number.
@@ -87,4 +74,11 @@ pub fn refusal(out: &mut [u8; SIZE], at: usize, name: &[u8], why: Refusal) -> us
 pub fn refusal_line(out: &mut [u8; SIZE], why: Refusal) -> usize {
     let next = refusal(out, 0, b"r", why);
     byte(out, next, b'\n')
+}
+
+// The line `r NUMBER VALUE` on standard output.
+pub fn refuse(why: Refusal) {
+    let mut out = [0u8; SIZE];
+    let end = refusal_line(&mut out, why);
+    flush(&out, end);
 }

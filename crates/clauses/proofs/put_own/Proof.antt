@@ -8,7 +8,7 @@ use lib.ListN.{length, take, getD}
 use lib.Seq.{take-suc, take-all}
 use Rattle.plan.specs.Front.{Put}
 use Rattle.plan.proofs.Fronts.{put-none, put-one, put-then, put-as, put-length}
-use Rattle.clauses.proofs.Numbers.{wide-fits, wide-kept}
+use Rattle.plan.proofs.Signs.{wide-fits, wide-kept}
 use Rattle.clauses.proofs.put_own.Statement.{statement}
 use Rattle.clauses.proofs.put_own.Tie as tie
 

@@ -27,7 +27,7 @@ returns : tie.Need-returns
 returns c =
     let d = c .before .before .before .before in
     let w = writes d (c .before .writing .given .1) in
-    meets (room-holds (clear (φ d)) (length (flat (written (φ d)))) (length (s d .args .out .now)) (w .room)) (record { last = w .variables; count = w .clauses; length-is = w .numbers; wrote = w .is })
+    meets (room-holds (clear (φ d)) (length (flat (written (φ d)))) (length (s d .args .out .now)) (w .room)) (record { last = w .counted .variables; count = w .counted .clauses; length-is = w .counted .numbers; wrote = w .is })
 
 returns-2 : tie.Need-returns-2
 returns-2 c =

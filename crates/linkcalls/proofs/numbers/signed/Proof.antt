@@ -4,7 +4,7 @@ use Prim.Native.Nat.{_-_}
 use native.Mathlib.Omega.{arith}
 use borrow.Author.Needs.{needs}
 use lib.IntN.{pos}
-use Rattle.text.proofs.Signs.{difference-fits}
+use Rattle.plan.proofs.Flipped.{difference-fits}
 use Rattle.linkcalls.proofs.numbers.signed.Statement.{statement}
 use Rattle.linkcalls.proofs.numbers.signed.Tie as tie
 

@@ -1,4 +1,4 @@
--- `text::magnitude` meets its contract.
+-- `plan::magnitude` meets its contract.
 -- Assumes nothing.
 use mathlib.Core.Path.{_≡_, _∙_}
 use mathlib.Core.Bool.{true}
@@ -9,10 +9,10 @@ use lib.Signed.{mag, ltZ}
 use mir.Syntax.{w32}
 use mir.Val.{toZ, ofZ}
 use mir.Facts.{toZ-ofZ, fits-natAbs}
 use Rattle.plan.proofs.Signs.{not-below-zero}
-use Rattle.text.proofs.Signs.{difference-fits, difference-is, flipped-is, one-more}
-use Rattle.text.proofs.magnitude.Statement.{statement}
-use Rattle.text.proofs.magnitude.Tie as tie
+use Rattle.plan.proofs.Flipped.{difference-fits, difference-is, flipped-is, one-more}
+use Rattle.plan.proofs.magnitude.Statement.{statement}
+use Rattle.plan.proofs.magnitude.Tie as tie
 
 -- the number is negative
 module _ (c : tie.Then1) where
