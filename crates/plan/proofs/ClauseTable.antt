@@ -2,14 +2,14 @@
 -- Assumes nothing.
 use mathlib.Core.Path.{_≡_, refl, sym, subst, _∙_, ap}
 use mathlib.Core.Logic.{_⊎_, inl, inr, _≢_, ⊎-elim}
-use mathlib.Core.List.{List, [], _∷_, _++_, List·Memᴰ, List·Memᴰ·head, List·Memᴰ·tail, List·Memᴰ·cases-cons, List·Memᴰ·append-cases, List·Memᴰ·not-nil}
+use mathlib.Core.List.{List, [], _∷_, _++_, append-assoc, List·Memᴰ, List·Memᴰ·head, List·Memᴰ·tail, List·Memᴰ·cases-cons, List·Memᴰ·append-cases, List·Memᴰ·not-nil}
 use Prim.Native.Nat.{ℕ, zero, suc, _+_, _-_, _≤_, _<_}
 use native.Mathlib.Numerals.{add-one}
 use native.Mathlib.Decide.{ℕ-discrete}
 use native.Mathlib.Omega.{arith}
 use lib.ListN.{length, getD, drop, take-append-drop, length-append, length-drop, drop-of-length-le}
 use lib.Seq.{drop-drop, drop-cons, getD-take, getD-drop, getD-append-add, length-take-le}
-use lib.IntN.{ℤ, pos, negsuc, ℤ-discrete}
+use lib.IntN.{ℤ, pos, negsuc, ℤ-discrete, natAbs}
 use Rattle.plan.specs.Ranged.{LiteralFits, literals}
 use Rattle.plan.specs.Written.{flat}
 use Rattle.plan.specs.Tables.{inFront, clausesOf, Lent}
@@ -38,6 +38,17 @@ unfolding flat literals
 flat-length [] = refl
 flat-length (C ∷ Cs) = length-append C (pos 0 ∷ flat Cs) ∙ omega (arith, flat-length Cs)
 
+-- one clause more
+pub flat-clause : (Cs : List (List ℤ)) (C : List ℤ) → flat (Cs ++ (C ∷ [])) ≡ flat Cs ++ (C ++ (pos 0 ∷ []))
+unfolding flat
+flat-clause [] C = refl
+flat-clause (D ∷ Cs) C = ap (λ l. D ++ (pos 0 ∷ l)) (flat-clause Cs C) ∙ simp append-assoc
+
+pub count-clause : (Cs : List (List ℤ)) (C : List ℤ) → literals (Cs ++ (C ∷ [])) ≡ literals Cs + length C
+unfolding literals
+count-clause [] C = omega arith
+count-clause (D ∷ Cs) C = omega (arith, count-clause Cs C)
+
 flat-ended : (Cs : List (List ℤ)) → Ended (flat Cs)
 unfolding flat
 flat-ended [] = refl
@@ -57,15 +68,21 @@ flat-literal (C ∷ Cs) l m n =
     ⊎-elim (λ i. (C, List·Memᴰ·head refl, i))
     (λ i. ⊎-elim (λ e. absurd (n e)) (λ j. let q = flat-literal Cs l j n in (q .0, List·Memᴰ·tail (q .1), q .2)) (List·Memᴰ·cases-cons i)) (List·Memᴰ·append-cases C m)
 
+-- clauses whose literals fit
+module _ {v : ℕ} (Cs : List (List ℤ)) (fit : (C : List ℤ) → List·Memᴰ C Cs → (l : ℤ) → List·Memᴰ l C → LiteralFits v l) where
+  pub flat-table : Table v (flat Cs)
+  flat-table = record { ended = flat-ended Cs; fits = fits }
+    where
+      fits : (k : ℕ) → k < length (flat Cs) → (EndsAt (flat Cs) k → ⊥) → LiteralFits v (getD (flat Cs) k (pos 0))
+      fits k h n = let q = flat-literal Cs (getD (flat Cs) k (pos 0)) (mem-at (flat Cs) (pos 0) k h) n in fit (q .0) (q .1) (getD (flat Cs) k (pos 0)) (q .2)
+
+  pub flat-back : clausesOf (flat Cs) ≡ Cs
+  flat-back = clauses-back Cs (λ C m l k e. let z : natAbs l ≡ 0 = ap natAbs e in omega (arith, fit C m l k .low))
+
 -- what the reader guarantees of it
 module _ {p : Plan} {es bs : List ℕ} {cs : List ℤ} (lent : Lent p es bs cs) where
   pub lent-table : Table (p .variables) cs
-  lent-table = record { ended = subst (λ l. Ended l) (lent .ended) (flat-ended (clausesOf cs)); fits = fits }
-    where
-      fits : (k : ℕ) → k < length cs → (EndsAt cs k → ⊥) → LiteralFits (p .variables) (getD cs k (pos 0))
-      fits k h n =
-          let q = flat-literal (clausesOf cs) (getD cs k (pos 0)) (rw (lent .ended) (mem-at cs (pos 0) k h)) n in
-          lent .ranged .literal (q .0) (q .1) (getD cs k (pos 0)) (q .2)
+  lent-table = subst (Table (p .variables)) (lent .ended) (flat-table (clausesOf cs) (lent .ranged .literal))
 
   pub lent-length : length cs ≡ literals (clausesOf cs) + length (clausesOf cs)
   lent-length = ap length (sym (lent .ended)) ∙ flat-length (clausesOf cs)

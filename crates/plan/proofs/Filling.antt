@@ -20,7 +20,7 @@ module _ {A : Type 0} where
     pub put : Put (each k g) at old out end
     pub same : length out ≡ length old
 
-  each-upto : (g : ℕ → List A) (k m : ℕ) → k ≤ m → length (each k g) ≤ length (each m g)
+  pub each-upto : (g : ℕ → List A) (k m : ℕ) → k ≤ m → length (each k g) ≤ length (each m g)
   unfolding each
   each-upto g k zero l = let e : k ≡ 0 = omega arith in subst (λ x. length (each x g) ≤ 0) (sym e) (omega arith)
   each-upto g k (suc m) l = go (each-upto g k m) (le-or-lt k m)

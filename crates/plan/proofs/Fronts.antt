@@ -43,7 +43,7 @@ module _ {A : Type 0} where
     pub put-length : length new ≡ length old
     put-length = ap length (p .is) ∙ omega (arith, p .inside, front-length, length-append front (drop (length front) old), length-drop (length front) old)
 
-    up-to : take end new ≡ front
+    pub up-to : take end new ≡ front
     up-to = ap (take end) (p .is) ∙ take-at front _ end front-length
 
     behind : (k : ℕ) → drop (end + k) new ≡ drop (end + k) old

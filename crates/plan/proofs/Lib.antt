@@ -22,3 +22,4 @@ pub mod Places
 pub mod ClauseTable
 pub mod Fronts
 pub mod Filling
+pub mod Laying

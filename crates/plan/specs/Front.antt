@@ -15,3 +15,9 @@ pub record Put {A : Type 0} (ws : List A) (at : ℕ) (before after : List A) (en
   pub count : end ≡ at + length ws
   pub inside : end ≤ length before
   pub is : Wrote (take at before ++ ws) before after
+
+-- The same as far as there is room; where there is none, nothing is said of what then stands there, and `end` is the place that would be behind.
+pub record Laid {A : Type 0} (ws : List A) (at : ℕ) (before after : List A) (end : ℕ) : Type 0 where
+  pub count : end ≡ at + length ws
+  pub same : length after ≡ length before
+  pub is : end ≤ length before → Wrote (take at before ++ ws) before after

@@ -1,8 +1,8 @@
--- The document's number and returned value of each refusal. Document 01, "Numbers given on refusal".
+-- The document's number and returned value of each refusal. Document 01, "Numbers given on refusal"; 20 to 22: document 02, C-11.
 -- Assumes nothing.
 use Prim.Native.Nat.{ℕ}
 use Rattle.plan.specs.declared.Refusal.{Refusal}
-use Rattle.plan.specs.declared.Refusal.the-variants.{TooLong, Cut, Misplaced, UnknownTag, BadLength, OutOfRange, TooMany, Shared, WrongLength, BadValue, NoSuchAtom, NoRoom}
+use Rattle.plan.specs.declared.Refusal.the-variants.{TooLong, Cut, Misplaced, UnknownTag, BadLength, OutOfRange, TooMany, Shared, WrongLength, BadValue, NoSuchAtom, NoRoom, BadText, WrongCount, TooManyVariables}
 
 abbrev pub numberOf : Refusal → ℕ
 numberOf TooLong = 1
@@ -17,6 +17,9 @@ numberOf (WrongLength variables) = 9
 numberOf (BadValue place) = 10
 numberOf (NoSuchAtom atoms) = 11
 numberOf (NoRoom needed) = 12
+numberOf (BadText offset) = 20
+numberOf (WrongCount offset) = 21
+numberOf (TooManyVariables offset) = 22
 
 abbrev pub valueOf : Refusal → ℕ
 valueOf TooLong = 0
@@ -31,3 +34,6 @@ valueOf (WrongLength variables) = variables
 valueOf (BadValue place) = place
 valueOf (NoSuchAtom atoms) = atoms
 valueOf (NoRoom needed) = needed
+valueOf (BadText offset) = offset
+valueOf (WrongCount offset) = offset
+valueOf (TooManyVariables offset) = offset

@@ -27,6 +27,9 @@ pub enum Refusal {
     BadValue(usize),
     NoSuchAtom(usize),
     NoRoom(usize),
+    BadText(usize),
+    WrongCount(usize),
+    TooManyVariables(usize),
 }
 
 // What an atom says of its two sites: that there is a path, or one of so many hops at the most.
@@ -315,6 +318,9 @@ pub fn number_of(refusal: Refusal) -> usize
         Refusal::BadValue(_) => 10,
         Refusal::NoSuchAtom(_) => 11,
         Refusal::NoRoom(_) => 12,
+        Refusal::BadText(_) => 20,
+        Refusal::WrongCount(_) => 21,
+        Refusal::TooManyVariables(_) => 22,
     }
 }
 
@@ -335,5 +341,8 @@ pub fn returned_by(refusal: Refusal) -> usize
         Refusal::BadValue(place) => place,
         Refusal::NoSuchAtom(atoms) => atoms,
         Refusal::NoRoom(needed) => needed,
+        Refusal::BadText(offset) => offset,
+        Refusal::WrongCount(offset) => offset,
+        Refusal::TooManyVariables(offset) => offset,
     }
 }
