@@ -7,7 +7,8 @@ use Rattle.plan.specs.declared.Kind.the-variants.{Reaches, Within}
 use Rattle.reader.specs.Format.{Step, refuse, next, done, Reading, refused, accepted, onward, word, lenAt, headOk, endsOk, boundOk, kindOk, atomOk, literalOk, literalsOk, serves, edgeUses, atomUses, edgeIn, kindIn, atomIn, clauseIn, addEdge, addAtom, addClause, emptyPlan, stepAt, headAt, records, readPlan}
 use Rattle.plan.specs.Ranged.{maxBound, literals, EndsFit, LiteralFits, BoundFits, Ranged}
 use Rattle.reader.proofs.Cases.{both, head-by, step-by, edge-by, atom-by, clause-by}
-use Rattle.reader.proofs.Rows.{count-clause, length-snoc, literals-length}
+use Rattle.plan.proofs.ClauseTable.{count-clause}
+use Rattle.reader.proofs.Rows.{length-snoc, literals-length}
 
 -- the tests, taken apart
 ends-fit : (n v from to variable : ℕ) → endsOk n v from to variable ≡ true → EndsFit n v from to variable
@@ -128,11 +129,11 @@ pub step-good : (f : List ℕ) (at : ℕ) (p : PlanFile) → Ranged p → Good (
 step-good f at p r =
     let n = literals-length f (at + 3) (lenAt f at / 2) in
     step-by Good (λ n v. tt) f at p
-    (λ h. edge-by Good (λ n v. tt) f at p (with-edge p r (edgeIn f at)))
-    (λ h. atom-by Good (λ n v. tt) f at p (with-atom p r (kindIn f at) (atomIn f at) refl))
+    (λ h. edge-by Good (λ n v. tt) f at p (λ l. with-edge p r (edgeIn f at)))
+    (λ h. atom-by Good (λ n v. tt) f at p (λ l. with-atom p r (kindIn f at) (atomIn f at) refl))
     (λ h. clause-by Good (λ n v. tt) f at p (λ l ok room most.
-    with-clause p r (clauseIn f at) (subst (λ (k : ℕ). 1 ≤ k) (sym n) l) ok room (subst (λ (k : ℕ). literals (p .clauses) + k ≤ 4096) (sym n) most)))
-    r
+    with-clause p r (clauseIn f at) (subst (λ (k : ℕ). 1 ≤ k) (sym n) (l .0)) ok room (subst (λ (k : ℕ). literals (p .clauses) + k ≤ 4096) (sym n) most)))
+    (λ e. r)
 
 on-good : (g : ℕ → PlanFile → Reading) → ((b : ℕ) (p : PlanFile) → Ranged p → Fine (g b p)) → (s : Step) → Good s → Fine (onward g s)
 unfolding Fine
@@ -169,7 +170,7 @@ empty-ranged n v h =
     }
 
 pub head-good : (f : List ℕ) → Good (headAt f)
-head-good f = head-by Good (λ n v. tt) f (λ w h. empty-ranged (word f 3) (word f 5) h)
+head-good f = head-by Good (λ n v. tt) f (λ l w h. empty-ranged (word f 3) (word f 5) h)
 
 pub read-fine : (f : List ℕ) → Fine (readPlan f)
 unfolding readPlan

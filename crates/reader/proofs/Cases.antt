@@ -9,17 +9,23 @@ use Rattle.reader.proofs.Steps.{fits-is}
 pub both : (a b : Bool) → (a && b) ≡ true → (a ≡ true) × (b ≡ true)
 both a b h = and-eq-true-iff a b .0 h
 
-long-enough : (n : ℕ) → clauseLen n ≡ true → 1 ≤ n / 2
+clause-long : (n : ℕ) → clauseLen n ≡ true → (1 ≤ n / 2) × (n / 2 * 2 ≡ n)
 unfolding clauseLen
-long-enough n h = omega (arith, leb-true 2 n (both (leb 2 n) (eqb (n / 2 * 2) n) h .0))
+clause-long n h = let d = both (leb 2 n) (eqb (n / 2 * 2) n) h in (omega (arith, leb-true 2 n (d .0)), eqb-true (n / 2 * 2) n (d .1))
+
+-- the end record stands at the offset, and nothing behind it
+pub record Ended (f : List ℕ) (at : ℕ) : Type 0 where
+  pub tag : tagAt f at ≡ 5
+  pub none : lenAt f at ≡ 0
+  pub last : length f ≡ at + 3
 
 module _ (G : Step → Type 0) (no : (n v : ℕ) → G (refuse n v)) where
   if-held : (b : Bool) (n v : ℕ) (s : Step) → (b ≡ true → G s) → G (check b n v s)
   if-held true n v s g = g refl
   if-held false n v s g = no n v
 
-  one-of : (b : Bool) (s u : Step) → G s → G u → G (pick b s u)
-  one-of true s u g h = g
+  one-of : (b : Bool) (s u : Step) → (b ≡ true → G s) → G u → G (pick b s u)
+  one-of true s u g h = g refl
   one-of false s u g h = h
 
   in-order : (long ranged room apart : Bool) (at : ℕ) (s : Step) → (long ≡ true → ranged ≡ true → room ≡ true → apart ≡ true → G s)
@@ -27,46 +33,48 @@ module _ (G : Step → Type 0) (no : (n v : ℕ) → G (refuse n v)) where
   in-order long ranged room apart at s g =
       if-held long _ _ _ (λ l. if-held ranged _ _ _ (λ r. if-held room _ _ _ (λ m. if-held apart _ _ _ (λ a. g l r m a))))
 
-  pub head-by : (f : List ℕ) → (7 ≤ length f → headOk (word f 3) (word f 5) ≡ true → G (next 7 (emptyPlan (word f 3) (word f 5)))) → G (headAt f)
+  pub head-by : (f : List ℕ) → (lenAt f 0 ≡ 4 → 7 ≤ length f → headOk (word f 3) (word f 5) ≡ true → G (next 7 (emptyPlan (word f 3) (word f 5)))) → G (headAt f)
   unfolding headAt
   head-by f g =
       if-held (leb (length f) maxBytes) _ _ _ (λ a. if-held (fits f 0) _ _ _ (λ b. if-held (eqb (tagAt f 0) 1) _ _ _ (λ c.
       if-held (eqb (lenAt f 0) 4) _ _ _ (λ d. if-held (headOk (word f 3) (word f 5)) _ _ _ (λ e.
-      g (omega (arith, fits-is f 0 b, eqb-true (lenAt f 0) 4 d)) e)))))
+      let l = eqb-true (lenAt f 0) 4 d in g l (omega (arith, fits-is f 0 b)) e)))))
 
   module _ (f : List ℕ) (at : ℕ) (p : PlanFile) where
-    pub edge-by : (edgeOk (p .nodes) (p .variables) (edgeIn f at) ≡ true → length (p .edges) < maxEdges → atomUses (p .atoms) (word f (at + 7)) ≡ false
+    pub edge-by : (lenAt f at ≡ 6 → edgeOk (p .nodes) (p .variables) (edgeIn f at) ≡ true → length (p .edges) < maxEdges → atomUses (p .atoms) (word f (at + 7)) ≡ false
         → G (next (after f at) (addEdge p (edgeIn f at)))) → G (edgeAt f at p)
     unfolding edgeAt
     edge-by g =
         in-order (eqb (lenAt f at) 6) (edgeOk (p .nodes) (p .variables) (edgeIn f at)) (ltb (length (p .edges)) maxEdges)
-        (not (atomUses (p .atoms) (word f (at + 7)))) _ _ (λ l r m a. g r (ltb-true _ _ m) (not-true _ a))
+        (not (atomUses (p .atoms) (word f (at + 7)))) _ _ (λ l r m a. g (eqb-true (lenAt f at) 6 l) r (ltb-true _ _ m) (not-true _ a))
 
-    pub atom-by : (atomOk (p .nodes) (p .variables) (kindIn f at) (atomIn f at) ≡ true → length (p .atoms) < maxAtoms → edgeUses (p .edges) (word f (at + 10)) ≡ false
+    pub atom-by : (lenAt f at ≡ 9 → atomOk (p .nodes) (p .variables) (kindIn f at) (atomIn f at) ≡ true → length (p .atoms) < maxAtoms → edgeUses (p .edges) (word f (at + 10)) ≡ false
         → G (next (after f at) (addAtom p (atomIn f at)))) → G (atomAt f at p)
     unfolding atomAt
     atom-by g =
         in-order (eqb (lenAt f at) 9) (atomOk (p .nodes) (p .variables) (kindIn f at) (atomIn f at)) (ltb (length (p .atoms)) maxAtoms)
-        (not (edgeUses (p .edges) (word f (at + 10)))) _ _ (λ l r m a. g r (ltb-true _ _ m) (not-true _ a))
+        (not (edgeUses (p .edges) (word f (at + 10)))) _ _ (λ l r m a. g (eqb-true (lenAt f at) 9 l) r (ltb-true _ _ m) (not-true _ a))
 
-    pub clause-by : (1 ≤ lenAt f at / 2 → literalsOk (p .variables) (clauseIn f at) ≡ true → length (p .clauses) < maxClauses
+    pub clause-by : ((1 ≤ lenAt f at / 2) × (lenAt f at / 2 * 2 ≡ lenAt f at) → literalsOk (p .variables) (clauseIn f at) ≡ true → length (p .clauses) < maxClauses
         → literals (p .clauses) + lenAt f at / 2 ≤ maxLiterals → G (next (after f at) (addClause p (clauseIn f at)))) → G (clauseAt f at p)
     unfolding clauseAt
     clause-by g =
         in-order (clauseLen (lenAt f at)) (literalsOk (p .variables) (clauseIn f at))
         (ltb (length (p .clauses)) maxClauses && leb (literals (p .clauses) + lenAt f at / 2) maxLiterals) true _ _ (λ l r m a.
         let d = both (ltb (length (p .clauses)) maxClauses) (leb (literals (p .clauses) + lenAt f at / 2) maxLiterals) m in
-        g (long-enough (lenAt f at) l) r (ltb-true _ _ (d .0)) (leb-true _ _ (d .1)))
+        g (clause-long (lenAt f at) l) r (ltb-true _ _ (d .0)) (leb-true _ _ (d .1)))
 
-    end-by : G (done p) → G (endAt f at p)
+    end-by : tagAt f at ≡ 5 → (Ended f at → G (done p)) → G (endAt f at p)
     unfolding endAt
-    end-by g = if-held (eqb (lenAt f at) 0) _ _ _ (λ l. if-held (eqb (length f) (at + 3)) _ _ _ (λ e. g))
+    end-by t g =
+        if-held (eqb (lenAt f at) 0) _ _ _ (λ l. if-held (eqb (length f) (at + 3)) _ _ _ (λ e.
+        g (record { tag = t; none = eqb-true (lenAt f at) 0 l; last = eqb-true (length f) (at + 3) e })))
 
     pub step-by : (after f at ≤ length f → G (edgeAt f at p)) → (after f at ≤ length f → G (atomAt f at p)) → (after f at ≤ length f → G (clauseAt f at p))
-        → G (done p) → G (stepAt f at p)
+        → (Ended f at → G (done p)) → G (stepAt f at p)
     unfolding stepAt
     step-by e a c d =
         if-held (fits f at) _ _ _ (λ w. if-held (not (eqb (tagAt f at) 1)) _ _ _ (λ n.
         let h = fits-is f at w in
-        one-of (eqb (tagAt f at) 2) _ _ (e h) (one-of (eqb (tagAt f at) 3) _ _ (a h) (one-of (eqb (tagAt f at) 4) _ _ (c h)
-        (one-of (eqb (tagAt f at) 5) _ _ (end-by d) (no 4 at))))))
+        one-of (eqb (tagAt f at) 2) _ _ (λ t. e h) (one-of (eqb (tagAt f at) 3) _ _ (λ t. a h) (one-of (eqb (tagAt f at) 4) _ _ (λ t. c h)
+        (one-of (eqb (tagAt f at) 5) _ _ (λ t. end-by (eqb-true (tagAt f at) 5 t) d) (no 4 at))))))

@@ -22,13 +22,13 @@ pub step-ahead : (f : List ℕ) (at : ℕ) (p : PlanFile) → Ahead f at (stepAt
 step-ahead f at p =
     let G = Ahead f at in
     step-by G (λ n v. tt) f at p
-    (λ h. edge-by G (λ n v. tt) f at p (λ r m a. (omega arith, h)))
-    (λ h. atom-by G (λ n v. tt) f at p (λ r m a. (omega arith, h)))
+    (λ h. edge-by G (λ n v. tt) f at p (λ l r m a. (omega arith, h)))
+    (λ h. atom-by G (λ n v. tt) f at p (λ l r m a. (omega arith, h)))
     (λ h. clause-by G (λ n v. tt) f at p (λ l r m a. (omega arith, h)))
-    tt
+    (λ e. tt)
 
 pub head-ahead : (f : List ℕ) → Ahead f 0 (headAt f)
-head-ahead f = head-by (Ahead f 0) (λ n v. tt) f (λ w h. (omega arith, w))
+head-ahead f = head-by (Ahead f 0) (λ n v. tt) f (λ l w h. (omega arith, w))
 
 on-same : (f : List ℕ) (at : ℕ) (g h : ℕ → PlanFile → Reading) → ((b : ℕ) (q : PlanFile) → at < b → b ≤ length f → g b q ≡ h b q) → (s : Step) → Ahead f at s
     → onward g s ≡ onward h s

@@ -5,6 +5,9 @@ pub mod Steps
 pub mod Cases
 pub mod Accepts
 pub mod Exact
+pub mod Runs
+pub mod Alike
+pub mod Inserting
 pub mod Loop
 pub mod Lending
 pub mod Sample

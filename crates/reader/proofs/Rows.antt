@@ -1,10 +1,9 @@
 -- Rows of flat tables, and lists of literals.
 -- Assumes nothing.
-use Rattle.reader.proofs.Kit.{_≡_, refl, sym, ap, _∙_, Bool, true, false, _&&_, _||_, List, [], _∷_, _++_, append-assoc, append-nil, ℕ, zero, suc, _+_, _-_, _<_, _≤_, arith, eq-eqb, ne-eqb, eqb, ℤ, pos, length, take, drop, getD, set, length-set, length-drop, length-append}
+use Rattle.reader.proofs.Kit.{_≡_, refl, sym, ap, _∙_, Bool, true, false, _&&_, _||_, List, [], _∷_, _++_, append-assoc, append-nil, ℕ, zero, suc, _+_, _-_, _<_, _≤_, arith, eq-eqb, ne-eqb, eqb, ℤ, length, take, drop, getD, set, length-set, length-drop, length-append}
 use lib.Seq.{take-suc-set, append-snoc, getD-drop, getD-take, drop-drop, length-take-le}
 use Rattle.plan.specs.Meaning.{Edge, Atom}
 use Rattle.plan.specs.Ranged.{literals}
-use Rattle.plan.specs.Written.{flat}
 use Rattle.reader.specs.Format.{word, twos, literalsIn, literalsOk, literalOk, serves, edgeUses, atomUses}
 use Rattle.reader.specs.Filling.{lastIs, rowsOf, edgeRow, atomRow}
 
@@ -107,16 +106,6 @@ pub rows-more : {A : Type 0} (row : A → List ℕ) (xs : List A) (x : A) → ro
 unfolding rowsOf
 rows-more row [] x = append-nil (row x)
 rows-more row (y ∷ xs) x = ap (λ l. row y ++ l) (rows-more row xs x) ∙ sym (append-assoc (row y) (rowsOf row xs) (row x))
-
-pub flat-clause : (cs : List (List ℤ)) (c : List ℤ) → flat (cs ++ (c ∷ [])) ≡ flat cs ++ (c ++ (pos 0 ∷ []))
-unfolding flat
-flat-clause [] c = refl
-flat-clause (d ∷ cs) c = ap (λ l. d ++ (pos 0 ∷ l)) (flat-clause cs c) ∙ simp append-assoc
-
-pub count-clause : (cs : List (List ℤ)) (c : List ℤ) → literals (cs ++ (c ∷ [])) ≡ literals cs + length c
-unfolding literals
-count-clause [] c = omega arith
-count-clause (d ∷ cs) c = omega (arith, count-clause cs c)
 
 pub length-snoc : {A : Type 0} (xs : List A) (x : A) → length (xs ++ (x ∷ [])) ≡ length xs + 1
 length-snoc xs x = length-append xs (x ∷ [])

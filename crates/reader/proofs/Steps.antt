@@ -10,7 +10,8 @@ use Rattle.reader.specs.declared.Step as code
 use Rattle.reader.specs.declared.Step.the-variants.{Refuse, Done}
 use Rattle.reader.specs.Format.{Step, next, inOrder, word, lenAt, after, fits, edgeOk, atomOk, literalsOk, clauseLen, edgeIn, kindIn, atomIn, clauseIn, literalsIn, addEdge, addAtom, addClause, emptyPlan, edgeAt, atomAt, clauseAt, endAt}
 use Rattle.reader.specs.Filling.{Steps, refuses, ends, Tables, Filled, lastIs, rowsOf, edgeRow, atomRow}
-use Rattle.reader.proofs.Rows.{uses-edges, uses-atoms, rows-more, flat-clause, count-clause, length-snoc, literals-length}
+use Rattle.plan.proofs.ClauseTable.{flat-clause, count-clause}
+use Rattle.reader.proofs.Rows.{uses-edges, uses-atoms, rows-more, length-snoc, literals-length}
 
 -- a record that fits ends in the file
 pub fits-is : (f : List ℕ) (at : ℕ) → fits f at ≡ true → after f at ≤ length f

@@ -129,6 +129,10 @@ addAtom p a = record { nodes = p .nodes; variables = p .variables; edges = p .ed
 abbrev pub addClause : PlanFile → List ℤ → PlanFile
 addClause p c = record { nodes = p .nodes; variables = p .variables; edges = p .edges; atoms = p .atoms; clauses = p .clauses ++ (c ∷ []) }
 
+-- clauses behind a plan file's own
+abbrev pub withClauses : PlanFile → List (List ℤ) → PlanFile
+withClauses p Cs = record { nodes = p .nodes; variables = p .variables; edges = p .edges; atoms = p .atoms; clauses = p .clauses ++ Cs }
+
 abbrev pub emptyPlan : ℕ → ℕ → PlanFile
 emptyPlan nodes variables = record { nodes = nodes; variables = variables; edges = []; atoms = []; clauses = [] }
 
