@@ -126,3 +126,9 @@ pub length-each : {A : Type 0} (n : ℕ) (f : ℕ → List A) → length (each n
 unfolding each sum
 length-each zero f = refl
 length-each (suc n) f = length-append (each n f) (f n) ∙ ap (λ x. x + length (f n)) (length-each n f)
+
+-- n lists of at most so many
+pub each-most : {A : Type 0} (n most : ℕ) (f : ℕ → List A) → ((i : ℕ) → i < n → length (f i) ≤ most) → length (each n f) ≤ n * most
+unfolding each
+each-most zero most f h = omega arith
+each-most (suc n) most f h = omega (arith, length-append (each n f) (f n), each-most n most f (λ i l. h i (omega arith)), h n (omega arith))

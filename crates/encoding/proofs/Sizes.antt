@@ -153,6 +153,12 @@ module _ (n : ℕ) (es : List Edge) (base : ℕ) (to-in : (k : ℕ) → k < leng
       block-size (λ Cs. length (flat Cs)) numbers-append numbers-each 2 10 6 4 6 (λ l. refl) (λ i k. refl) node-numbers (λ L t a. refl) L s t a
       ∙ omega arith
 
+  pub level-numbers : (i : ℕ) → length (flat (levelClauses n es base i)) ≡ 14 * m + 6 * n
+  unfolding edgeClauses endClauses flat
+  level-numbers i =
+      level-size (λ Cs. length (flat Cs)) numbers-append numbers-each 2 10 6 4 6 (λ l. refl) (λ i k. refl) node-numbers (λ L t a. refl) i
+      ∙ omega arith
+
 -- the blocks of all atoms
 pub last-is : (n : ℕ) (es : List Edge) (base : ℕ) (As : List Atom) → last n es base As ≡ base + total (blockVariables n (length es)) n As
 unfolding last total
