@@ -74,6 +74,8 @@ fn done(
         4 => work::close(plan, edges, atoms, clauses, repetitions),
         5 => work::write(plan, edges, atoms, clauses, repetitions),
         6 => work::search(plan, edges, atoms, clauses, repetitions),
+        7 => work::print(plan, edges, atoms, clauses, repetitions),
+        8 => work::rules(plan, edges, atoms, clauses, repetitions),
         _ => 0,
     }
 }

@@ -1,7 +1,13 @@
 // One function for each operation: it does it so many times and hands back a sum, so that nothing can be left out.
+ghost use mathlib.Core.Path.{_≡_};
 ghost use Prim.Native.Nat.{_<_, _≤_};
+ghost use lib.ListN.{length};
+ghost use Rattle.plan.specs.ClauseTable.{maxTable};
+ghost use Rattle.plan.specs.Ranged.{maxVariables};
 ghost use Rattle.plan.specs.Tables.{Lent};
 use clauses::Writing;
+use dimacs::RulesAnswer;
+use listing::Printing;
 use plan::Assignment;
 use plan::Atom;
 use plan::Clause;
@@ -13,6 +19,12 @@ use std::num::wrapping_add_u64;
 
 // Room for the written clauses.
 const ROOM: usize = 500000;
+
+// Room for their text. Behind so few numbers no variable has six digits, so a number takes at most 7 bytes: a sign, five digits and a blank.
+const TEXT: usize = ROOM * 7;
+
+// Room for the text of the file's own clauses: at most 5 bytes for a literal, 2 for the 0 behind a clause, and the `p cnf` line.
+const RULES: usize = Clause::MAX_LITERALS * 5 + Clause::MAX * 2 + 40;
 
 // 1 where the place holds 0: a look that keeps what was written from being left out.
 fn look_at(table: &[u16], left: u32) -> u64 {
@@ -36,6 +48,16 @@ fn look_at16(table: &[i16], left: u32) -> u64 {
 }
 
 fn look_at32(table: &[i32], left: u32) -> u64 {
+    let at = left as usize;
+    if at < table.len() {
+        if table[at] == 0 {
+            return 1;
+        }
+    }
+    0
+}
+
+fn look_at8(table: &[u8], left: u32) -> u64 {
     let at = left as usize;
     if at < table.len() {
         if table[at] == 0 {
@@ -188,6 +210,116 @@ fn write_once(plan: Plan, edges: &[u16], atoms: &[u16], clauses: &[i16], numbers
     match writing {
         Writing::Written(counts) => counts.numbers as u64,
         Writing::Short(_) => 0,
+    }
+}
+
+// Prints the file as text each time, if there is room for it.
+pub fn print(plan: Plan, edges: &[u16], atoms: &[u16], clauses: &[i16], repetitions: u32) -> u64
+    requires { ⌜ Lent plan (now edges) (now atoms) (now clauses) ⌝ }
+{
+    let mut text = [0u8; TEXT];
+    print_into(plan, edges, atoms, clauses, repetitions, &mut text)
+}
+
+fn print_into(
+    plan: Plan,
+    edges: &[u16],
+    atoms: &[u16],
+    clauses: &[i16],
+    repetitions: u32,
+    text: &mut [u8; TEXT],
+) -> u64
+    requires { ⌜ Lent plan (now edges) (now atoms) (now clauses) ⌝ }
+{
+    let mut sum = 0u64;
+    let mut left = repetitions;
+    while left > 0 {
+        sum = wrapping_add_u64(sum, print_once(plan, edges, atoms, clauses, text));
+        sum = wrapping_add_u64(sum, look_at8(text, left));
+        left -= 1;
+    }
+    sum
+}
+
+fn print_once(plan: Plan, edges: &[u16], atoms: &[u16], clauses: &[i16], text: &mut [u8]) -> u64
+    requires { ⌜ Lent plan (now edges) (now atoms) (now clauses) ⌝ }
+{
+    let printing = listing::write_text(plan, edges, atoms, clauses, text);
+    match printing {
+        Printing::Printed(bytes) => bytes as u64,
+        Printing::Short(_) => 0,
+    }
+}
+
+// Reads the file's own clauses as rules each time, from their text, which is made once.
+pub fn rules(plan: Plan, edges: &[u16], atoms: &[u16], clauses: &[i16], repetitions: u32) -> u64
+    requires { ⌜ Lent plan (now edges) (now atoms) (now clauses) ⌝ }
+{
+    let mut text = [0u8; RULES];
+    rules_in(plan, edges, atoms, clauses, repetitions, &mut text)
+}
+
+fn rules_in(
+    plan: Plan,
+    edges: &[u16],
+    atoms: &[u16],
+    clauses: &[i16],
+    repetitions: u32,
+    text: &mut [u8],
+) -> u64
+    requires { ⌜ Lent plan (now edges) (now atoms) (now clauses) ⌝ }
+{
+    let next = dimacs::print_head(text, 0, plan.variables as u32, plan.clauses as u32);
+    let end = dimacs::print_table(text, next, clauses);
+    if end > text.len() {
+        return 0;
+    }
+    rules_of(plan, &text[..end], repetitions)
+}
+
+fn rules_of(plan: Plan, text: &[u8], repetitions: u32) -> u64
+    requires { ⌜ plan .variables ≤ maxVariables ⌝ }
+{
+    let mut table = [0i16; Clause::TABLE];
+    rules_into(without_clauses(plan), text, repetitions, &mut table)
+}
+
+// The plan as it was before its clauses, so that the limits hold for the text's alone.
+fn without_clauses(plan: Plan) -> Plan
+    ensures { λ r. ⌜ (r .variables ≡ plan .variables) × (r .clauses ≡ 0) × (r .literals ≡ 0) ⌝ }
+{
+    Plan {
+        nodes: plan.nodes,
+        variables: plan.variables,
+        edges: plan.edges,
+        atoms: plan.atoms,
+        clauses: 0,
+        literals: 0,
+    }
+}
+
+fn rules_into(plan: Plan, text: &[u8], repetitions: u32, table: &mut [i16]) -> u64
+    requires { ⌜ (plan .variables ≤ maxVariables) × (plan .clauses ≡ 0) × (plan .literals ≡ 0) ⌝ }
+    requires { ⌜ length (now table) ≡ maxTable ⌝ }
+{
+    let mut sum = 0u64;
+    let mut left = repetitions;
+    while left > 0 {
+        sum = wrapping_add_u64(sum, rules_once(plan, text, table));
+        sum = wrapping_add_u64(sum, look_at16(table, left));
+        left -= 1;
+    }
+    sum
+}
+
+fn rules_once(plan: Plan, text: &[u8], table: &mut [i16]) -> u64
+    requires { ⌜ (plan .variables ≤ maxVariables) × (plan .clauses ≡ 0) × (plan .literals ≡ 0) ⌝ }
+    requires { ⌜ length (now table) ≡ maxTable ⌝ }
+{
+    let answer = dimacs::read_rules(plan, text, table);
+    match answer {
+        RulesAnswer::Read(clauses, literals) => wrapping_add_u64(clauses as u64, literals as u64),
+        RulesAnswer::Refused(_) => 0,
     }
 }
 

@@ -5,9 +5,11 @@ use plan::Refusal;
 use planner::CloseAnswer;
 use planner::JudgeAnswer;
 use planner::ReadAnswer;
+use planner::ReadDimacsAnswer;
 use planner::ReasonAnswer;
 use planner::SearchAnswer;
 use planner::WriteAnswer;
+use planner::WriteDimacsAnswer;
 use text::SIZE;
 
 pub fn read(file: &[u8]) -> bool {
@@ -53,6 +55,22 @@ pub fn write_clauses(file: &[u8], numbers: &mut [i32]) -> bool {
     let answer = planner::write_clauses(file, numbers);
     let next = say_write(&mut out, answer);
     let next = places32(&mut out, next, numbers);
+    ended(&mut out, next)
+}
+
+pub fn write_dimacs(file: &[u8], bytes: &mut [u8]) -> bool {
+    let mut out = [0u8; SIZE];
+    let answer = planner::write_dimacs(file, bytes);
+    let next = say_write_dimacs(&mut out, answer);
+    let next = places_unsigned(&mut out, next, bytes);
+    ended(&mut out, next)
+}
+
+pub fn read_dimacs(file: &[u8], text: &[u8], bytes: &mut [u8]) -> bool {
+    let mut out = [0u8; SIZE];
+    let answer = planner::read_dimacs(file, text, bytes);
+    let next = say_read_dimacs(&mut out, answer);
+    let next = places_unsigned(&mut out, next, bytes);
     ended(&mut out, next)
 }
 
@@ -105,6 +123,20 @@ fn say_write(out: &mut [u8; SIZE], answer: WriteAnswer) -> usize {
     }
 }
 
+fn say_write_dimacs(out: &mut [u8; SIZE], answer: WriteDimacsAnswer) -> usize {
+    match answer {
+        WriteDimacsAnswer::Refused(why) => refused(out, why),
+        WriteDimacsAnswer::Printed(bytes) => counted(out, b"printed", bytes as u64),
+    }
+}
+
+fn say_read_dimacs(out: &mut [u8; SIZE], answer: ReadDimacsAnswer) -> usize {
+    match answer {
+        ReadDimacsAnswer::Refused(why) => refused(out, why),
+        ReadDimacsAnswer::Rules(clauses, literals) => ruled(out, clauses, literals),
+    }
+}
+
 fn refused(out: &mut [u8; SIZE], why: Refusal) -> usize {
     text::refusal(out, 0, b"refused", why)
 }
@@ -124,6 +156,11 @@ fn written(out: &mut [u8; SIZE], variables: usize, clauses: usize, numbers: usiz
     next = text::field(out, next, variables as u64);
     next = text::field(out, next, clauses as u64);
     text::field(out, next, numbers as u64)
+}
+
+fn ruled(out: &mut [u8; SIZE], clauses: usize, literals: usize) -> usize {
+    let next = counted(out, b"rules", clauses as u64);
+    text::field(out, next, literals as u64)
 }
 
 // An answer's name and its number.
@@ -154,6 +191,18 @@ fn places32(out: &mut [u8; SIZE], at: usize, places: &[i32]) -> usize {
         next = place(out, next, places[i]);
     }
     next
+}
+
+fn places_unsigned(out: &mut [u8; SIZE], at: usize, places: &[u8]) -> usize {
+    let mut next = text::word(out, at, b" :");
+    for i in 0..places.len() {
+        next = text::field(out, next, wide(places[i]));
+    }
+    next
+}
+
+fn wide(value: u8) -> u64 {
+    value as u64
 }
 
 fn wide8(value: i8) -> i32 {

@@ -1,7 +1,7 @@
 // linkcalls: makes the public calls that standard input asks for, and writes a line for each.
 //
 // A request, numbers high byte first: the call (1 byte), the file's length (2) and the file, the assignment's length (2) and the
-// assignment (signed bytes), the atom (2), the budget (4) and the room (2), which is the length of the buffer that is lent.
+// assignment (signed bytes) or the text, the atom (2), the budget (4) and the room (2), which is the length of the buffer that is lent.
 mod answers;
 mod numbers;
 
@@ -68,17 +68,17 @@ fn with_file(call: u8, file: &mut [u8]) -> bool {
     with_assignment(call, file, &mut bytes[..size], &mut values[..size])
 }
 
-// Goes on with the assignment, first as bytes and then as values.
+// Goes on with the assignment, first as bytes, which a text stays, and then as values.
 fn with_assignment(call: u8, file: &[u8], bytes: &mut [u8], values: &mut [i8]) -> bool {
     if !filled(bytes) {
         return bad_request();
     }
     sign(bytes, values);
-    with_numbers(call, file, values)
+    with_numbers(call, file, bytes, values)
 }
 
 // Goes on with the numbers behind the assignment, and answers.
-fn with_numbers(call: u8, file: &[u8], assignment: &[i8]) -> bool {
+fn with_numbers(call: u8, file: &[u8], text: &[u8], assignment: &[i8]) -> bool {
     let mut tail = [0u8; 8];
     if !filled(&mut tail) {
         return bad_request();
@@ -89,10 +89,10 @@ fn with_numbers(call: u8, file: &[u8], assignment: &[i8]) -> bool {
         budget: four(tail[2], tail[3], tail[4], tail[5]),
         room: two(tail[6], tail[7]),
     };
-    answer(file, assignment, request)
+    answer(file, text, assignment, request)
 }
 
-fn answer(file: &[u8], assignment: &[i8], request: Request) -> bool {
+fn answer(file: &[u8], text: &[u8], assignment: &[i8], request: Request) -> bool {
     let call = request.call;
     let room = request.room;
     if MAX_ROOM < room {
@@ -116,6 +116,14 @@ fn answer(file: &[u8], assignment: &[i8], request: Request) -> bool {
         6 => {
             let mut out = [BEFORE as i32; MAX_ROOM];
             answers::write_clauses(file, &mut out[..room])
+        }
+        7 => {
+            let mut out = [BEFORE as u8; MAX_ROOM];
+            answers::write_dimacs(file, &mut out[..room])
+        }
+        8 => {
+            let mut out = [BEFORE as u8; MAX_ROOM];
+            answers::read_dimacs(file, text, &mut out[..room])
         }
         _ => bad_request(),
     }

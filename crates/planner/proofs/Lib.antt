@@ -3,4 +3,7 @@ pub mod Stating
 pub mod Shell
 pub mod Demand2
 pub mod Demand3
+pub mod Ruling
+pub mod Inserting
+pub mod Texts
 pub mod Main

@@ -3,8 +3,8 @@
 -- Assumes nothing.
 use mathlib.Core.Path.{_≡_}
 use mathlib.Core.Logic.{_⊎_}
-use mathlib.Core.List.{List, [], List·Memᴰ}
-use Prim.Native.Nat.{ℕ, _-_, _^_, _≤_, _<_}
+use mathlib.Core.List.{List, [], _++_, List·Memᴰ}
+use Prim.Native.Nat.{ℕ, suc, _+_, _-_, _*_, _^_, _≤_, _<_}
 use lib.IntN.{ℤ}
 use lib.ListN.{length, take}
 use Rattle.plan.specs.Meaning.{PlanFile, Atom, Full, HasTrue, IsRight, IsPlan}
@@ -12,17 +12,23 @@ use Rattle.plan.specs.Ranged.{Ranged}
 use Rattle.plan.specs.Reason.{holds, fails, ReasonIs}
 use Rattle.plan.specs.Search.{opens, Closes, Outcome, Tree, Before}
 use Rattle.plan.specs.Tables.{clausesOf}
-use Rattle.plan.specs.Written.{flat, written, lastVariable, ExactlyOne}
+use Rattle.plan.specs.Written.{each, flat, written, lastVariable, ExactlyOne}
 use Rattle.plan.specs.declared.Refusal.{Refusal}
 use Rattle.plan.proofs.Cases as cases
 use Rattle.plan.proofs.Reason as reasons
 use Rattle.encoding.specs.Counts.{Counted}
 use Rattle.encoding.proofs.Sizes as sizes
 use Rattle.encoding.proofs.Sample as sample
-use Rattle.reader.specs.Format.{refused, accepted, readPlan}
+use Rattle.reader.specs.Format.{refused, accepted, withClauses, readPlan}
 use Rattle.reader.specs.declared.ReadAnswer.{ReadAnswer}
 use Rattle.reader.proofs.Accepts as accepts
 use Rattle.reader.proofs.Sample as files
+use Rattle.dimacs.specs.Reading.{Rule, good, rules, readText, literalsOf, InRange}
+use Rattle.dimacs.specs.Records.{inserted}
+use Rattle.dimacs.specs.Printing.{entries, headLine}
+use Rattle.dimacs.proofs.ReadBack as back
+use Rattle.listing.specs.Text.{text, part}
+use Rattle.listing.proofs.Parts as parts
 use Rattle.planner.specs.declared.JudgeAnswer.{JudgeAnswer}
 use Rattle.planner.specs.declared.CloseAnswer.{CloseAnswer}
 use Rattle.planner.specs.declared.ReasonAnswer.{ReasonAnswer}
@@ -30,6 +36,10 @@ use Rattle.planner.specs.declared.SearchAnswer.{SearchAnswer}
 use Rattle.planner.specs.declared.SearchAnswer.the-variants.{Plan, Impossible, Undecided}
 use Rattle.planner.specs.declared.WriteAnswer.{WriteAnswer}
 use Rattle.planner.specs.declared.WriteAnswer.the-variants.{Written}
+use Rattle.planner.specs.declared.WriteDimacsAnswer.{WriteDimacsAnswer}
+use Rattle.planner.specs.declared.WriteDimacsAnswer.the-variants.{Printed}
+use Rattle.planner.specs.declared.ReadDimacsAnswer.{ReadDimacsAnswer}
+use Rattle.planner.specs.declared.ReadDimacsAnswer.the-variants.{Rules}
 use Rattle.planner.specs.Refusing.{refusal, Refuses, KeepingBy}
 use Rattle.planner.specs.Read.{ReadIs}
 use Rattle.planner.specs.Judge.{JudgeIs}
@@ -37,9 +47,12 @@ use Rattle.planner.specs.Close.{ClosedIs}
 use Rattle.planner.specs.Reason.{ReasonedIs}
 use Rattle.planner.specs.Search.{allOpen, SearchedIs}
 use Rattle.planner.specs.WriteClauses.{WrittenIs}
+use Rattle.planner.specs.WriteDimacs.{PrintedIs}
+use Rattle.planner.specs.ReadDimacs.{rulesFor, RulesReadIs}
 use Rattle.planner.proofs.Unique as one
 use Rattle.planner.proofs.Demand2 as demand-2
 use Rattle.planner.proofs.Demand3 as demand-3
+use Rattle.planner.proofs.Texts as texts
 
 -- Demand 1: every call ends, stays inside the lent buffers, and answers or refuses with 01's number; a refusal changes no buffer; no call has
 -- a `requires`. That is the functions' own proofs. "Every buffer then keeps its bytes": where a call meets a refusal, its statement says this.
@@ -70,6 +83,14 @@ search-unique = one.search-unique
 pub write-clauses-unique : (file : List ℕ) (before after after′ : List ℤ) (r s : WriteAnswer)
     → WrittenIs file before after r → WrittenIs file before after′ s → (r ≡ s) × (after ≡ after′)
 write-clauses-unique = one.write-clauses-unique
+
+pub write-dimacs-unique : (file before after after′ : List ℕ) (r s : WriteDimacsAnswer)
+    → PrintedIs file before after r → PrintedIs file before after′ s → (r ≡ s) × (after ≡ after′)
+write-dimacs-unique = one.write-dimacs-unique
+
+pub read-dimacs-unique : (file lines before after after′ : List ℕ) (r s : ReadDimacsAnswer)
+    → RulesReadIs file lines before after r → RulesReadIs file lines before after′ s → (r ≡ s) × (after ≡ after′)
+read-dimacs-unique = one.read-dimacs-unique
 
 -- 01, "Ranges": what is accepted keeps to them.
 pub accepted-in-range : (file : List ℕ) (φ : PlanFile) → readPlan file ≡ accepted φ → Ranged φ
@@ -133,6 +154,25 @@ module _ (file : List ℕ) (φ : PlanFile) (reads : readPlan file ≡ accepted �
 
 pub counts-by-formula : (φ : PlanFile) → Ranged φ → Counted φ
 counts-by-formula = sizes.counted
+
+-- 02, C-11: "Clauses read and printed again stay the same, in order."
+pub printed-reads : (variables : ℕ) (Cs : List (List ℤ)) → variables ≤ 2147483647 → length Cs ≤ 2147483647 → InRange variables Cs
+    → (rs : List Rule) × (literalsOf rs ≡ Cs) × (readText (headLine variables (length Cs) ++ entries (flat Cs)) ≡ good 0 variables (length Cs) rs)
+printed-reads = back.reads-back
+
+-- What `write_dimacs` leaves in the caller's buffer reads back as the written-out clauses, so demand 3 speaks of what a solver reads.
+module _ (file : List ℕ) (φ : PlanFile) (reads : readPlan file ≡ accepted φ) (before after : List ℕ) (bytes : ℕ) (h : PrintedIs file before after (Printed bytes)) where
+  pub text-reads-back : (rs : List Rule) × (readText (take bytes after) ≡ good 0 (lastVariable φ) (length (written φ)) rs) × (literalsOf rs ≡ written φ) × ExactlyOne φ (literalsOf rs) (lastVariable φ)
+  text-reads-back = texts.text-reads-back file φ reads before after bytes h
+
+-- "the parts one behind another are the whole"
+pub parts-whole : (φ : PlanFile) → each (suc (length (φ .atoms))) (part φ) ≡ text φ
+parts-whole = parts.parts-whole
+
+-- The plan file with the records of `read_dimacs` put in before its end record is accepted, and is the same plan with the text's clauses behind its own.
+module _ (file : List ℕ) (φ : PlanFile) (reads : readPlan file ≡ accepted φ) (lines before after : List ℕ) (clauses literals : ℕ) (h : RulesReadIs file lines before after (Rules clauses literals)) where
+  pub rules-accepted : (rs : List Rule) × (rulesFor φ lines ≡ rules rs) × (readPlan (inserted file (take (3 * clauses + 2 * literals) after)) ≡ accepted (withClauses φ (literalsOf rs)))
+  rules-accepted = texts.rules-accepted file φ reads lines before after clauses literals h
 
 -- "P1 to P10 are one table, shown from the definitions by one argument"
 pub cases-shown : (c : cases.Case) → List·Memᴰ c cases.table → cases.Says c

@@ -26,6 +26,11 @@ use Rattle.plan.proofs.Closing.{not-both}
 use Rattle.plan.proofs.Search.{closes-unique}
 use Rattle.plan.proofs.Budget.{searched-unique}
 use Rattle.plan.proofs.Reason as reasons
+use Rattle.plan.specs.Ranged.{literals}
+use Rattle.dimacs.specs.Reading.{Rule, rules, literalsOf}
+use Rattle.dimacs.specs.Records.{records}
+use Rattle.dimacs.proofs.Ruled.{rulesIn}
+use Rattle.listing.specs.Text.{text}
 use Rattle.reader.specs.declared.ReadAnswer.{ReadAnswer}
 use Rattle.reader.specs.declared.ReadAnswer.the-variants as read
 use Rattle.planner.specs.declared.JudgeAnswer.{JudgeAnswer}
@@ -38,6 +43,10 @@ use Rattle.planner.specs.declared.SearchAnswer.{SearchAnswer}
 use Rattle.planner.specs.declared.SearchAnswer.the-variants as search
 use Rattle.planner.specs.declared.WriteAnswer.{WriteAnswer}
 use Rattle.planner.specs.declared.WriteAnswer.the-variants as write
+use Rattle.planner.specs.declared.WriteDimacsAnswer.{WriteDimacsAnswer}
+use Rattle.planner.specs.declared.WriteDimacsAnswer.the-variants as print
+use Rattle.planner.specs.declared.ReadDimacsAnswer.{ReadDimacsAnswer}
+use Rattle.planner.specs.declared.ReadDimacsAnswer.the-variants as dimacs
 use Rattle.planner.specs.Refusing.{Met, refusal, clear, Names, Refuses, Case, By, KeepingBy}
 use Rattle.planner.specs.Read.{Counts, ReadCase, ReadIs}
 use Rattle.planner.specs.Judge.{JudgeCase, JudgeIs}
@@ -45,6 +54,8 @@ use Rattle.planner.specs.Close.{CloseCase, ClosedIs}
 use Rattle.planner.specs.Reason.{ReasonCase, ReasonedIs}
 use Rattle.planner.specs.Search.{allOpen, SearchCase, SearchedIs}
 use Rattle.planner.specs.WriteClauses.{WriteCase, WrittenIs}
+use Rattle.planner.specs.WriteDimacs.{PrintCase, PrintedIs}
+use Rattle.planner.specs.ReadDimacs.{rulesFor, RulesCase, RulesReadIs}
 
 -- one refusal has a number and a value
 one-name : (n v : ℕ) (x y : Refusal) → Names n v x → Names n v y → x ≡ y
@@ -228,3 +239,41 @@ module _ (before : List ℤ) where
 pub write-clauses-unique : (file : List ℕ) (before : List ℤ) → OneLeft (WrittenIs file before)
 write-clauses-unique file before =
     unique-left write.Refused (λ φ o. o ≡ φ) (λ φ o p e f. e ∙ sym f) (toldWrite before) before (λ r after φ. WriteCase φ before after r) (write-led before)
+
+-- ---- write_dimacs
+
+module _ (before : List ℕ) where
+  abbrev toldPrint : PlanFile → WriteDimacsAnswer × List ℕ
+  toldPrint φ = (print.Printed (length (text φ)), text φ ++ drop (length (text φ)) before)
+
+  print-led : (φ : PlanFile) (r : WriteDimacsAnswer) (after : List ℕ) → PrintCase φ before after r → Told (λ o. o ≡ φ) toldPrint (r, after)
+  print-led φ (print.Refused y) after h = absurd h
+  print-led φ (print.Printed n) after h =
+      let x = h .count in
+      let w = h .wrote in
+      record { of = φ; is = refl; told = λ i. (print.Printed (x i), w i) }
+
+pub write-dimacs-unique : (file before : List ℕ) → OneLeft (PrintedIs file before)
+write-dimacs-unique file before =
+    unique-left print.Refused (λ φ o. o ≡ φ) (λ φ o p e f. e ∙ sym f) (toldPrint before) before (λ r after φ. PrintCase φ before after r) (print-led before)
+
+-- ---- read_dimacs
+
+module _ (lines before : List ℕ) where
+  abbrev Holding : PlanFile → List Rule → Type 0
+  Holding φ rs = rulesFor φ lines ≡ rules rs
+
+  abbrev toldRules : List Rule → ReadDimacsAnswer × List ℕ
+  toldRules rs = (dimacs.Rules (length rs) (literals (literalsOf rs)), records (literalsOf rs) ++ drop (length (records (literalsOf rs))) before)
+
+  rules-led : (φ : PlanFile) (r : ReadDimacsAnswer) (after : List ℕ) → RulesCase φ lines before after r → Told (Holding φ) toldRules (r, after)
+  rules-led φ (dimacs.Refused y) after h = absurd h
+  rules-led φ (dimacs.Rules c l) after h =
+      let x = h .count in
+      let y = h .literals-are in
+      let w = h .wrote in
+      record { of = h .of; is = h .read; told = λ i. (dimacs.Rules (x i) (y i), w i) }
+
+pub read-dimacs-unique : (file lines before : List ℕ) → OneLeft (RulesReadIs file lines before)
+read-dimacs-unique file lines before =
+    unique-left dimacs.Refused (Holding lines before) (λ φ o p e f. ap rulesIn (sym e ∙ f)) (toldRules lines before) before (λ r after φ. RulesCase φ lines before after r) (rules-led lines before)

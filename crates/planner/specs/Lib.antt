@@ -5,3 +5,5 @@ pub mod Close
 pub mod Reason
 pub mod Search
 pub mod WriteClauses
+pub mod ReadDimacs
+pub mod WriteDimacs

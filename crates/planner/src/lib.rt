@@ -1,6 +1,8 @@
 // planner: the public calls of the library. Each reads the file, and what is accepted is lent on to its own function below.
 use clauses::Writing;
+use dimacs::RulesAnswer;
 use judge::Judgement;
+use listing::Printing;
 use plan::Assignment;
 use plan::Atom;
 use plan::Clause;
@@ -21,6 +23,8 @@ ghost use Rattle.planner.specs.Close.{closeChecks, CloseCase, CloseBy, C
 ghost use Rattle.planner.specs.Reason.{reasonChecks, ReasonBy, ReasonedIs};
 ghost use Rattle.planner.specs.Search.{searchChecks, SearchBy, SearchedIs};
 ghost use Rattle.planner.specs.WriteClauses.{writeChecks, WriteBy, WrittenIs};
+ghost use Rattle.planner.specs.WriteDimacs.{printChecks, PrintBy, PrintedIs};
+ghost use Rattle.planner.specs.ReadDimacs.{rulesChecks, RulesBy, RulesReadIs};
 
 pub enum JudgeAnswer {
     Refused(Refusal),
@@ -52,6 +56,16 @@ pub enum SearchAnswer {
 pub enum WriteAnswer {
     Refused(Refusal),
     Written(usize, usize, usize),
+}
+
+pub enum WriteDimacsAnswer {
+    Refused(Refusal),
+    Printed(usize),
+}
+
+pub enum ReadDimacsAnswer {
+    Refused(Refusal),
+    Rules(usize, usize),
 }
 
 // Reads a plan file: how many of each sort it has, or why it is refused.
@@ -164,6 +178,47 @@ pub fn write_clauses(file: &[u8], out: &mut [i32]) -> WriteAnswer
             reader::used_edges(plan, &edges),
             reader::used_atoms(plan, &atoms),
             reader::used_clauses(plan, &clauses),
+            out,
+        ),
+    }
+}
+
+// Writes the file out as DIMACS text: the `p cnf` line, the file's own clauses, then the block of each atom behind its line `c atom`.
+pub fn write_dimacs(file: &[u8], out: &mut [u8]) -> WriteDimacsAnswer
+    ensures { λ r. ⌜ PrintedIs (now (file .entry)) (now (out .entry)) (now (out .exit)) r ⌝ }
+{
+    let mut edges = [0u16; Edge::TABLE];
+    let mut atoms = [0u16; Atom::TABLE];
+    let mut clauses = [0i16; Clause::TABLE];
+    let reading = reader::read_into(file, &mut edges, &mut atoms, &mut clauses);
+    match reading {
+        ReadAnswer::Refused(refusal) => WriteDimacsAnswer::Refused(refusal),
+        ReadAnswer::Accepted(plan) => print_lent(
+            plan,
+            reader::used_edges(plan, &edges),
+            reader::used_atoms(plan, &atoms),
+            reader::used_clauses(plan, &clauses),
+            out,
+        ),
+    }
+}
+
+// Reads DIMACS text as house rules for the file: the records of its clauses, which go before the file's end record.
+pub fn read_dimacs(file: &[u8], text: &[u8], out: &mut [u8]) -> ReadDimacsAnswer
+    ensures { λ r. ⌜ RulesReadIs (now (file .entry)) (now (text .entry)) (now (out .entry)) (now (out .exit)) r ⌝ }
+{
+    let mut edges = [0u16; Edge::TABLE];
+    let mut atoms = [0u16; Atom::TABLE];
+    let mut clauses = [0i16; Clause::TABLE];
+    let reading = reader::read_into(file, &mut edges, &mut atoms, &mut clauses);
+    match reading {
+        ReadAnswer::Refused(refusal) => ReadDimacsAnswer::Refused(refusal),
+        ReadAnswer::Accepted(plan) => rules_lent(
+            plan,
+            reader::used_edges(plan, &edges),
+            reader::used_atoms(plan, &atoms),
+            reader::used_clauses(plan, &clauses),
+            text,
             out,
         ),
     }
@@ -353,5 +408,49 @@ fn write_lent(
             counts.numbers,
         ),
         Writing::Short(needed) => WriteAnswer::Refused(Refusal::NoRoom(needed)),
+    }
+}
+
+fn print_lent(
+    plan: Plan,
+    edges: &[u16],
+    atoms: &[u16],
+    clauses: &[i16],
+    out: &mut [u8],
+) -> WriteDimacsAnswer
+    requires { ⌜ Lent plan (now edges) (now atoms) (now clauses) ⌝ }
+    ensures { λ r. ⌜ PrintBy (printChecks (now (out .entry)) (planOf plan (now (edges .entry)) (now (atoms .entry)) (now (clauses .entry)))) (now (out .entry)) (now (out .exit)) r ⌝ }
+{
+    let printing = listing::write_text(plan, edges, atoms, clauses, out);
+    match printing {
+        Printing::Printed(bytes) => WriteDimacsAnswer::Printed(bytes),
+        Printing::Short(needed) => WriteDimacsAnswer::Refused(Refusal::NoRoom(needed)),
+    }
+}
+
+fn rules_lent(
+    plan: Plan,
+    edges: &[u16],
+    atoms: &[u16],
+    clauses: &[i16],
+    text: &[u8],
+    out: &mut [u8],
+) -> ReadDimacsAnswer
+    requires { ⌜ Lent plan (now edges) (now atoms) (now clauses) ⌝ }
+    ensures { λ r. ⌜ RulesBy (rulesChecks (now (text .entry)) (now (out .entry)) (planOf plan (now (edges .entry)) (now (atoms .entry)) (now (clauses .entry)))) (now (text .entry)) (now (out .entry)) (now (out .exit)) r ⌝ }
+{
+    let mut table = [0i16; Clause::TABLE];
+    let answer = dimacs::read_rules(plan, text, &mut table);
+    match answer {
+        RulesAnswer::Refused(why) => ReadDimacsAnswer::Refused(why),
+        RulesAnswer::Read(count, literals) => {
+            let needed = 3 * count + 2 * literals;
+            if out.len() < needed {
+                return ReadDimacsAnswer::Refused(Refusal::NoRoom(needed));
+            }
+            let used = literals + count;
+            dimacs::put_records(out, &table[..used]);
+            ReadDimacsAnswer::Rules(count, literals)
+        }
     }
 }
