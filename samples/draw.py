@@ -1,6 +1,6 @@
 #!/usr/bin/env python3
 """Makes everything beside each NAME.txt: the plan file, what the programs print
-for it, the Graphviz source and the picture.
+for it and for its house rules (NAME-rules.cnf), the Graphviz source and the picture.
 
     samples/draw.py            all samples, with the reference of tests/
     samples/draw.py NAME ..    some of them
@@ -35,6 +35,14 @@ class Sample:
 
     def path(self, ending):
         return HERE / f"{self.name}.{ending}"
+
+    def rules(self, ending):
+        return HERE / f"{self.name}-rules.{ending}"
+
+    def answer(self):
+        """What `linkplan` prints, with the house rules where there are any."""
+        with_rules = self.rules("linkplan")
+        return with_rules if with_rules.exists() else self.path("linkplan")
 
 
 def read_text(name):
@@ -112,25 +120,35 @@ def write_plan(sample):
     return True
 
 
+def print_to(path, source, *words):
+    """What a program prints, given a file on standard input."""
+    printed = subprocess.run(words, input=source.read_bytes(), stdout=subprocess.PIPE, check=True)
+    path.write_bytes(printed.stdout)
+
+
 def write_printed(sample, changed, reference):
+    plan = sample.path("plan")
     for program in ["linkplan", "linkcnf"]:
         path = sample.path(program)
         if changed or not path.exists():
-            plan = sample.path("plan").read_bytes()
-            printed = subprocess.run([reference(), program], input=plan, stdout=subprocess.PIPE, check=True)
-            path.write_bytes(printed.stdout)
+            print_to(path, plan, reference(), program)
+    rules = sample.rules("cnf")
+    if rules.exists():
+        ruled = sample.rules("linkrules")
+        print_to(ruled, rules, reference(), "linkrules", plan)
+        print_to(sample.rules("linkplan"), ruled, reference(), "linkplan")
 
 
 def plan_found(sample):
     """The literals of the plan that `linkplan` prints, or none."""
-    for line in sample.path("linkplan").read_text().splitlines():
+    for line in sample.answer().read_text().splitlines():
         if line.startswith("v "):
             return {int(word) for word in line.split()[1:-1]}
     return set()
 
 
 def verdict(sample):
-    return sample.path("linkplan").read_text().splitlines()[0].removeprefix("s ")
+    return sample.answer().read_text().splitlines()[0].removeprefix("s ")
 
 
 def dot_source(sample):

@@ -1,11 +1,12 @@
-//! The six public calls on file bytes, with refusals 9 to 12 and the lent buffer.
+//! The eight public calls on file bytes, with refusals 9 to 12 and the lent buffer.
 //!
-//! The refusals come in the order of their numbers, the reader's 1 to 8 first.
+//! The reader's refusals 1 to 8 come first, then 9 to 11 or those of a text, then 12.
 //! A lent buffer is written last of all, so everything that is not a written
 //! answer leaves it as it was.
 
 use crate::clauses;
 use crate::close;
+use crate::dimacs;
 use crate::file::{self, PlanFile, Refusal};
 use crate::judge::{self, Judgement};
 use crate::meaning::{OFF, ON, OPEN};
@@ -36,6 +37,12 @@ pub enum Answer {
         variables: usize,
         clauses: usize,
         numbers: usize,
+    },
+    /// The bytes of a printed text.
+    Printed(usize),
+    Rules {
+        clauses: usize,
+        literals: usize,
     },
     Refused(Refusal),
 }
@@ -132,6 +139,29 @@ fn try_write_clauses(file: &[u8], out: &mut [i32]) -> Checked<Answer> {
         variables: written.variables,
         clauses: written.clauses,
         numbers: written.numbers.len(),
+    })
+}
+
+pub fn write_dimacs(file: &[u8], out: &mut [u8]) -> Answer {
+    answer(try_write_dimacs(file, out))
+}
+
+fn try_write_dimacs(file: &[u8], out: &mut [u8]) -> Checked<Answer> {
+    let text = dimacs::print(&file::read(file)?);
+    fill(out, text.as_bytes())?;
+    Ok(Answer::Printed(text.len()))
+}
+
+pub fn read_dimacs(file: &[u8], text: &[u8], out: &mut [u8]) -> Answer {
+    answer(try_read_dimacs(file, text, out))
+}
+
+fn try_read_dimacs(file: &[u8], text: &[u8], out: &mut [u8]) -> Checked<Answer> {
+    let clauses = dimacs::read(&file::read(file)?, text)?;
+    fill(out, &dimacs::records(&clauses))?;
+    Ok(Answer::Rules {
+        clauses: clauses.len(),
+        literals: clauses.iter().map(Vec::len).sum(),
     })
 }
 

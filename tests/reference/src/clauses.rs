@@ -1,6 +1,7 @@
 //! Document 01, "Writing out clauses".
 
 use crate::file::{Atom, Kind, PlanFile};
+use std::fmt::Write;
 
 /// The written list: each clause ended by 0.
 #[derive(Clone, Debug, Default, PartialEq, Eq)]
@@ -8,9 +9,19 @@ pub struct Written {
     pub variables: usize,
     pub clauses: usize,
     pub numbers: Vec<i32>,
+    /// Where each atom's block begins in `numbers`.
+    pub blocks: Vec<usize>,
 }
 
 impl Written {
+    /// The file's clauses, then each atom's block.
+    pub fn parts(&self) -> Vec<&[i32]> {
+        let ends = [&[0], &self.blocks[..], &[self.numbers.len()]].concat();
+        ends.windows(2)
+            .map(|ends| &self.numbers[ends[0]..ends[1]])
+            .collect()
+    }
+
     fn clause(&mut self, literals: &[i32]) {
         self.numbers.extend_from_slice(literals);
         self.numbers.push(0);
@@ -52,9 +63,20 @@ pub fn write(plan: &PlanFile) -> Written {
         out.clause(&literals);
     }
     for atom in &plan.atoms {
+        out.blocks.push(out.numbers.len());
         write_block(plan, atom, &mut out);
     }
     out
+}
+
+/// One clause a line, with its 0.
+pub fn lines(numbers: &[i32]) -> String {
+    let mut lines = String::new();
+    for number in numbers {
+        let behind = if *number == 0 { '\n' } else { ' ' };
+        write!(lines, "{number}{behind}").expect("a string takes everything");
+    }
+    lines
 }
 
 /// L of the document: a path that repeats no node has at most n - 1 hops.

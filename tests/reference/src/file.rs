@@ -63,7 +63,7 @@ pub struct Refusal {
     pub value: usize,
 }
 
-fn refuse<T>(number: u32, value: usize) -> Result<T, Refusal> {
+pub fn refuse<T>(number: u32, value: usize) -> Result<T, Refusal> {
     Err(Refusal { number, value })
 }
 

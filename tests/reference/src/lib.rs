@@ -1,4 +1,4 @@
-//! An independent reference of linkplan, written from document 01 alone.
+//! An independent reference of linkplan, written from documents 01 and 02 alone.
 //!
 //! It aims at being read beside the document, not at speed. The modules follow
 //! the document's sections; `brute` answers the same questions once more in
@@ -8,6 +8,7 @@
 pub mod calls;
 pub mod clauses;
 pub mod close;
+pub mod dimacs;
 pub mod file;
 pub mod judge;
 pub mod meaning;

@@ -1,7 +1,9 @@
 //! The reference as a program: see `USAGE`.
 
+use reference::protocol::Request;
 use reference::{compare, generate, programs, protocol, selftest, stored};
 use std::collections::HashMap;
+use std::fs;
 use std::io::{self, Read, Write};
 use std::process::ExitCode;
 
@@ -10,6 +12,8 @@ usage: reference COMMAND
   answers                      requests on standard input, the expected lines on standard output
   linkplan                     a plan file on standard input, what linkplan prints on standard output
   linkcnf                      a plan file on standard input, what linkcnf prints on standard output
+  linkdimacs                   a plan file on standard input, what linkdimacs prints on standard output
+  linkrules FILE               house rules on standard input, what linkrules prints on standard output
   requests [--seed S] [--count N] [--largest BYTES]
                                a drawn request stream on standard output
   survey [--seed S] [--files N]
@@ -18,9 +22,9 @@ usage: reference COMMAND
                                the reference against brute force and the SAT solver
   stored DIR                   the stored plan files and their index.txt into DIR
   read-requests DIR            the files named in DIR/index.txt as one request stream
-  call-requests                the stored request stream over all six calls
+  call-requests                the stored request stream over all eight calls
   compare --programs DIR [--run PREFIX] [--seed S] [--files N] [--calls N]
-          [--single N] [--sat N] [--out DIR]
+          [--single N] [--sat N] [--solved N] [--out DIR]
                                the programs in DIR against the reference
 ";
 
@@ -31,14 +35,16 @@ fn main() -> ExitCode {
         ["answers"] => print(protocol::answers(&input()).as_bytes()),
         ["linkplan"] => print(programs::linkplan(&input()).as_bytes()),
         ["linkcnf"] => print(programs::linkcnf(&input()).as_bytes()),
+        ["linkdimacs"] => print(programs::linkdimacs(&input()).as_bytes()),
+        ["linkrules", file] => fs::read(file)
+            .map_err(said)
+            .and_then(|file| print(&programs::linkrules(&file, &input()))),
         ["requests", options @ ..] => Options::of(options).and_then(requests),
         ["survey", options @ ..] => Options::of(options).and_then(survey),
         ["selftest", options @ ..] => Options::of(options).and_then(self_test),
         ["stored", folder] => stored::write_files(folder.as_ref()).map_err(said),
-        ["read-requests", folder] => stored::requests(folder.as_ref())
-            .map_err(said)
-            .and_then(|requests| print(&protocol::stream(&requests))),
-        ["call-requests"] => print(&protocol::stream(&stored::calls::requests())),
+        ["read-requests", folder] => stream(stored::requests(folder.as_ref())),
+        ["call-requests"] => stream(stored::calls::requests()),
         ["compare", options @ ..] => Options::of(options).and_then(compare_programs),
         _ => Err(USAGE.into()),
     };
@@ -60,6 +66,10 @@ fn input() -> Vec<u8> {
 
 fn print(bytes: &[u8]) -> Result<(), String> {
     io::stdout().lock().write_all(bytes).map_err(said)
+}
+
+fn stream(requests: io::Result<Vec<Request>>) -> Result<(), String> {
+    print(&protocol::stream(&requests.map_err(said)?))
 }
 
 /// `--name value` pairs.
@@ -131,9 +141,10 @@ fn compare_programs(options: Options) -> Result<(), String> {
             .collect(),
         seed: options.number("seed", 1)?,
         files: options.count("files", 5_000)?,
-        calls: options.count("calls", 20_000)?,
+        calls: options.count("calls", 28_000)?,
         single: options.count("single", 300)?,
         sat: options.count("sat", 500)?,
+        solved: options.count("solved", 200)?,
         out: options.text("out", "target/compare").into(),
     })
 }

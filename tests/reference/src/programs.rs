@@ -1,7 +1,9 @@
-//! What the programs `linkplan` and `linkcnf` print for a file on standard input.
+//! What the programs `linkplan`, `linkcnf`, `linkdimacs` and `linkrules` print.
 
 use crate::calls::{self, Answer};
-use crate::file::{self, Refusal};
+use crate::clauses;
+use crate::dimacs;
+use crate::file::{self, Refusal, CLAUSES, LITERALS, RECORD_HEAD};
 use crate::meaning::ON;
 use crate::search::{Outcome, Searched};
 
@@ -48,20 +50,32 @@ fn plan_line(values: &[i8]) -> String {
 pub fn linkcnf(file: &[u8]) -> String {
     let mut out = vec![0; ROOM];
     match calls::write_clauses(file, &mut out) {
-        Answer::Written { numbers, .. } => clause_lines(&out[..numbers]),
+        Answer::Written { numbers, .. } => clauses::lines(&out[..numbers]),
         Answer::Refused(refusal) => refusal_line(refusal),
         other => unreachable!("write_clauses answered {other:?}"),
     }
 }
 
-/// One clause a line, with its 0.
-pub fn clause_lines(numbers: &[i32]) -> String {
-    let mut lines = String::new();
-    for number in numbers {
-        lines += &number.to_string();
-        lines.push(if *number == 0 { '\n' } else { ' ' });
+/// The whole text, however long it is.
+pub fn linkdimacs(file: &[u8]) -> String {
+    match file::read(file) {
+        Ok(plan) => dimacs::print(&plan),
+        Err(refusal) => refusal_line(refusal),
     }
-    lines
+}
+
+/// `file` is what the argument names, `text` what comes on standard input.
+pub fn linkrules(file: &[u8], text: &[u8]) -> Vec<u8> {
+    let mut records = vec![0; dimacs::record_bytes(CLAUSES, LITERALS)];
+    match calls::read_dimacs(file, text, &mut records) {
+        Answer::Rules { clauses, literals } => {
+            let (before, end) = file.split_at(file.len() - RECORD_HEAD);
+            let records = &records[..dimacs::record_bytes(clauses, literals)];
+            [before, records, end].concat()
+        }
+        Answer::Refused(refusal) => refusal_line(refusal).into_bytes(),
+        other => unreachable!("read_dimacs answered {other:?}"),
+    }
 }
 
 fn refusal_line(refusal: Refusal) -> String {

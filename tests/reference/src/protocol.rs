@@ -10,10 +10,15 @@ pub const CLOSE: u8 = 3;
 pub const REASON: u8 = 4;
 pub const SEARCH: u8 = 5;
 pub const WRITE_CLAUSES: u8 = 6;
+pub const WRITE_DIMACS: u8 = 7;
+pub const READ_DIMACS: u8 = 8;
 
 /// A longer file or a larger room makes a request bad.
 pub const MOST_FILE_BYTES: usize = 20_480;
 pub const MOST_ROOM: usize = 20_480;
+
+/// A longer text has no room in the two bytes of its length.
+pub const MOST_TEXT_BYTES: usize = 65_535;
 
 /// Every place of a lent buffer before the call.
 pub const BEFORE: i8 = 77;
@@ -24,6 +29,7 @@ pub const BAD_REQUEST: &str = "bad request";
 pub struct Request {
     pub call: u8,
     pub file: Vec<u8>,
+    /// The assignment; for `read_dimacs` the text's bytes stand here.
     pub assignment: Vec<i8>,
     pub atom: u16,
     pub budget: u32,
@@ -39,12 +45,20 @@ impl Request {
         }
     }
 
+    pub fn set_text(&mut self, text: &[u8]) {
+        self.assignment = text.iter().map(|&byte| byte as i8).collect();
+    }
+
+    pub fn text(&self) -> Vec<u8> {
+        self.assignment.iter().map(|&value| value as u8).collect()
+    }
+
     pub fn to_bytes(&self) -> Vec<u8> {
         let mut bytes = vec![self.call];
         bytes.extend((self.file.len() as u16).to_be_bytes());
         bytes.extend(&self.file);
         bytes.extend((self.assignment.len() as u16).to_be_bytes());
-        bytes.extend(self.assignment.iter().map(|&value| value as u8));
+        bytes.extend(self.text());
         bytes.extend(self.atom.to_be_bytes());
         bytes.extend(self.budget.to_be_bytes());
         bytes.extend(self.room.to_be_bytes());
@@ -86,7 +100,7 @@ impl<'a> Rest<'a> {
         let atom = self.number(2)? as u16;
         let budget = self.number(4)? as u32;
         let room = self.number(2).filter(|&room| room <= MOST_ROOM)? as u16;
-        let known = (READ..=WRITE_CLAUSES).contains(&call);
+        let known = (READ..=READ_DIMACS).contains(&call);
         known.then_some(Request {
             call,
             file,
@@ -149,9 +163,19 @@ pub fn line(request: &Request) -> String {
             let answer = calls::search(file, request.budget, &mut result);
             text(answer) + &places(&result)
         }
-        _ => {
+        WRITE_CLAUSES => {
             let mut out = vec![i32::from(BEFORE); room];
             let answer = calls::write_clauses(file, &mut out);
+            text(answer) + &places(&out)
+        }
+        WRITE_DIMACS => {
+            let mut out = vec![BEFORE as u8; room];
+            let answer = calls::write_dimacs(file, &mut out);
+            text(answer) + &places(&out)
+        }
+        _ => {
+            let mut out = vec![BEFORE as u8; room];
+            let answer = calls::read_dimacs(file, &request.text(), &mut out);
             text(answer) + &places(&out)
         }
     }
@@ -196,6 +220,8 @@ pub fn text(answer: Answer) -> String {
         } => {
             format!("written {variables} {clauses} {numbers}")
         }
+        Answer::Printed(bytes) => format!("printed {bytes}"),
+        Answer::Rules { clauses, literals } => format!("rules {clauses} {literals}"),
         Answer::Refused(refusal) => format!("refused {} {}", refusal.number, refusal.value),
     }
 }

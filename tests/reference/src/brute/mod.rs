@@ -5,5 +5,6 @@
 pub mod plans;
 pub mod reader;
 pub mod reasons;
+pub mod rules;
 pub mod sets;
 pub mod walks;

@@ -3,7 +3,9 @@
 use super::process::Programs;
 use super::{count, Settings, Tally};
 use crate::generate::requests::Subject;
-use crate::protocol::{line, stream, Request, BAD_REQUEST, MOST_FILE_BYTES, MOST_ROOM};
+use crate::protocol::{
+    line, stream, Request, BAD_REQUEST, MOST_FILE_BYTES, MOST_ROOM, READ_DIMACS,
+};
 use crate::random::Random;
 
 const BATCH: usize = 500;
@@ -15,6 +17,8 @@ pub struct Compared {
     pub sorts: Tally,
     pub by_call: Tally,
     pub answers: Tally,
+    /// The answers of `read_dimacs` alone.
+    pub texts: Tally,
 }
 
 /// Every file has its own part of the seed and its share of the calls.
@@ -47,7 +51,7 @@ fn share(settings: &Settings, number: usize) -> usize {
     upto(number + 1) - upto(number)
 }
 
-const NAMES: [&str; 7] = [
+const NAMES: [&str; 9] = [
     "",
     "read",
     "judge",
@@ -55,30 +59,40 @@ const NAMES: [&str; 7] = [
     "reason",
     "search",
     "write_clauses",
+    "write_dimacs",
+    "read_dimacs",
 ];
 
 fn tally(compared: &mut Compared, batch: &[Request], lines: &[String]) {
     compared.calls += batch.len();
     for (request, line) in batch.iter().zip(lines) {
         count(&mut compared.by_call, NAMES[usize::from(request.call)]);
-        let mut words = line.split(' ');
-        let name = match words.next() {
-            Some("refused") => format!("refused {}", words.next().unwrap_or("")),
-            name => name.unwrap_or("").to_string(),
-        };
+        let name = answer_name(line);
         count(&mut compared.answers, &name);
+        if request.call == READ_DIMACS {
+            count(&mut compared.texts, &name);
+        }
     }
 }
 
-/// Cut off, or more than a request may ask for.
+fn answer_name(line: &str) -> String {
+    let mut words = line.split(' ');
+    match words.next() {
+        Some("refused") => format!("refused {}", words.next().unwrap_or("")),
+        name => name.unwrap_or("").to_string(),
+    }
+}
+
+/// Cut off, more than a request may ask for, or no call's number.
 fn bad_request(random: &mut Random) -> Vec<u8> {
     let good = Request::read(crate::sample::bytes()).to_bytes();
     let too_long = (MOST_FILE_BYTES as u16 + 1).to_be_bytes();
     let too_large = (MOST_ROOM as u16 + 1).to_be_bytes();
-    match random.below(4) {
+    match random.below(5) {
         0 => good[..random.between(1, good.len() - 1)].to_vec(),
         1 => [&good[..1], &too_long, &vec![0; MOST_FILE_BYTES + 20]].concat(),
         2 => [&good[..good.len() - 2], &too_large].concat(),
+        3 => [&[random.pick(&[0, 9, 255])], &good[1..]].concat(),
         _ => Vec::new(),
     }
 }
@@ -115,7 +129,7 @@ fn first_difference(
     programs.difference(
         "linkcalls",
         &input,
-        &format!("{said}\n"),
-        &format!("{got}\n"),
+        format!("{said}\n").as_bytes(),
+        format!("{got}\n").as_bytes(),
     )
 }

@@ -25,7 +25,7 @@ pub struct Checked {
 }
 
 pub fn check(settings: &Settings, programs: &Programs) -> Result<Checked, String> {
-    let stock = Stock::find(settings);
+    let stock = Stock::all(settings).into_iter().next();
     let mut checked = Checked::default();
     let mut number = 0;
     while checked.plans + checked.impossible < settings.sat {
@@ -38,7 +38,8 @@ pub fn check(settings: &Settings, programs: &Programs) -> Result<Checked, String
             if let Err(message) = check_one(plan, &answers, stock.as_ref()) {
                 let shown = format!("{}\n{}\n", lines[2 * k], lines[2 * k + 1]);
                 let input = [two[0].to_bytes(), two[1].to_bytes()].concat();
-                return Err(message + "\n" + &programs.difference("a list", &input, "", &shown)?);
+                let shown = programs.difference("a list", &input, b"", shown.as_bytes())?;
+                return Err(message + "\n" + &shown);
             }
             match answers.plan {
                 Some(_) => checked.plans += 1,

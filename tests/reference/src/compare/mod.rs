@@ -3,7 +3,9 @@
 mod batches;
 mod lists;
 mod process;
+mod rules;
 mod single;
+mod solved;
 mod stock;
 
 use process::Programs;
@@ -11,7 +13,7 @@ use std::collections::BTreeMap;
 use std::path::PathBuf;
 
 pub struct Settings {
-    /// Where `linkplan`, `linkcnf` and `linkcalls` are.
+    /// Where the programs are.
     pub programs: PathBuf,
     /// What stands before a program to run it, such as an emulator and its options.
     pub prefix: Vec<String>,
@@ -19,10 +21,12 @@ pub struct Settings {
     /// Files drawn for `linkcalls`, and calls about them in all.
     pub files: usize,
     pub calls: usize,
-    /// Files for `linkplan` and `linkcnf`, which take one file a process.
+    /// Files for the programs that take one file a process.
     pub single: usize,
     /// Files whose written clauses are given to SAT solvers.
     pub sat: usize,
+    /// Files whose printed text is given to stock solvers.
+    pub solved: usize,
     /// Where a difference is shown.
     pub out: PathBuf,
 }
@@ -44,10 +48,15 @@ fn listed(tally: &Tally) -> String {
 
 /// Prints a summary; an error is the first difference met.
 pub fn run(settings: &Settings) -> Result<(), String> {
-    let seed = settings.seed;
-    println!("compare: seed {seed}");
-    let programs = Programs::find(settings)?;
-    let calls = batches::compare(settings, &programs)?;
+    println!("compare: seed {}", settings.seed);
+    let programs = &Programs::find(settings)?;
+    compare_calls(settings, programs)?;
+    compare_programs(settings, programs)?;
+    ask_solvers(settings, programs)
+}
+
+fn compare_calls(settings: &Settings, programs: &Programs) -> Result<(), String> {
+    let calls = batches::compare(settings, programs)?;
     println!(
         "linkcalls: {} calls about {} files, no difference",
         calls.calls, calls.files
@@ -55,13 +64,25 @@ pub fn run(settings: &Settings) -> Result<(), String> {
     println!("  files: {}", listed(&calls.sorts));
     println!("  calls: {}", listed(&calls.by_call));
     println!("  answers: {}", listed(&calls.answers));
-    let singles = single::compare(settings, &programs)?;
-    println!(
-        "linkplan and linkcnf: {} files each, no difference",
-        settings.single
-    );
-    println!("  answers: {}", listed(&singles));
-    let lists = lists::check(settings, &programs)?;
+    println!("  answers of read_dimacs: {}", listed(&calls.texts));
+    Ok(())
+}
+
+fn compare_programs(settings: &Settings, programs: &Programs) -> Result<(), String> {
+    let single = settings.single;
+    let printed = single::compare(settings, programs)?;
+    println!("linkplan, linkcnf and linkdimacs: {single} files each, no difference");
+    println!("  answers: {}", listed(&printed));
+    let longest = single::compare_longest(settings, programs)?;
+    println!("linkdimacs on the longest list: {longest} bytes, no difference");
+    let ruled = rules::compare(settings, programs)?;
+    println!("linkrules: {single} files, no difference; {single} from linkdimacs and back");
+    println!("  answers: {}", listed(&ruled));
+    Ok(())
+}
+
+fn ask_solvers(settings: &Settings, programs: &Programs) -> Result<(), String> {
+    let lists = lists::check(settings, programs)?;
     println!(
         "written clauses: {} files with a plan, {} without; search and own solver agree",
         lists.plans, lists.impossible
@@ -69,6 +90,14 @@ pub fn run(settings: &Settings) -> Result<(), String> {
     match lists.stock {
         Some(name) => println!("stock solver: {name}, agrees on all of them"),
         None => println!("stock solver: left out (neither minisat nor cadical was found)"),
+    }
+    let solved = solved::check(settings, programs)?;
+    match solved.stock.join(" and ").as_str() {
+        "" => println!("linkdimacs into stock solvers: left out (none was found)"),
+        names => println!(
+            "linkdimacs into {names}: {} files with a plan, {} without; agrees with linkplan",
+            solved.plans, solved.impossible
+        ),
     }
     Ok(())
 }

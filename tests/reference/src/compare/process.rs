@@ -4,8 +4,17 @@ use super::Settings;
 use std::fs;
 use std::io::Write;
 use std::path::{Path, PathBuf};
-use std::process::{Command, Stdio};
+use std::process::{Command, Output, Stdio};
 use std::thread;
+
+/// The programs that are compared.
+const NAMES: [&str; 5] = [
+    "linkplan",
+    "linkcnf",
+    "linkcalls",
+    "linkdimacs",
+    "linkrules",
+];
 
 pub struct Programs {
     folder: PathBuf,
@@ -15,7 +24,7 @@ pub struct Programs {
 
 impl Programs {
     pub fn find(settings: &Settings) -> Result<Programs, String> {
-        for name in ["linkplan", "linkcnf", "linkcalls"] {
+        for name in NAMES {
             let path = settings.programs.join(name);
             if !path.is_file() {
                 return Err(format!("there is no program {}\n", path.display()));
@@ -30,9 +39,17 @@ impl Programs {
 
     /// What a program prints for some bytes on standard input.
     pub fn run(&self, name: &str, input: &[u8]) -> Result<Vec<u8>, String> {
+        let output = self.output(name, &[], input)?;
+        eprint!("{}", String::from_utf8_lossy(&output.stderr));
+        Ok(output.stdout)
+    }
+
+    /// Both outputs of a program.
+    pub fn output(&self, name: &str, arguments: &[&str], input: &[u8]) -> Result<Output, String> {
         let mut words = self.prefix.clone();
         words.push(self.folder.join(name).display().to_string());
-        let output = feed(Command::new(&words[0]).args(&words[1..]), input)
+        let mut command = Command::new(&words[0]);
+        let output = feed(command.args(&words[1..]).args(arguments), input)
             .map_err(|error| format!("{name} does not run: {error}\n"))?;
         if output.status.code().is_none() {
             let shown = self.show("input", input)?;
@@ -41,7 +58,30 @@ impl Programs {
                 output.status
             ));
         }
-        Ok(output.stdout)
+        Ok(output)
+    }
+
+    /// A program has to print this and to say nothing on standard error.
+    pub fn expect(
+        &self,
+        name: &str,
+        arguments: &[&str],
+        input: &[u8],
+        expected: &[u8],
+    ) -> Result<(), String> {
+        let output = self.output(name, arguments, input)?;
+        let printed = [output.stdout, output.stderr].concat();
+        if printed == expected {
+            return Ok(());
+        }
+        Err(self.difference(name, input, expected, &printed)?)
+    }
+
+    /// Keeps a file where a program finds it by its name, which is returned.
+    pub fn keep(&self, name: &str, bytes: &[u8]) -> Result<String, String> {
+        let path = self.out.join(name);
+        write_below(&self.out, &path, bytes)?;
+        Ok(path.display().to_string())
     }
 
     /// Keeps the first difference where it can be looked at, and says where.
@@ -49,21 +89,19 @@ impl Programs {
         &self,
         name: &str,
         input: &[u8],
-        expected: &str,
-        printed: &str,
+        expected: &[u8],
+        printed: &[u8],
     ) -> Result<String, String> {
         let input = self.show("input", input)?;
-        let expected = self.show("expected", expected.as_bytes())?;
-        let printed = self.show("printed", printed.as_bytes())?;
+        let expected = self.show("expected", expected)?;
+        let printed = self.show("printed", printed)?;
         Ok(format!(
             "{name} differs from the reference\n  input    {input}\n  expected {expected}\n  printed  {printed}\n"
         ))
     }
 
     fn show(&self, what: &str, bytes: &[u8]) -> Result<String, String> {
-        let path = self.out.join(format!("difference.{what}"));
-        write_below(&self.out, &path, bytes)?;
-        Ok(path.display().to_string())
+        self.keep(&format!("difference.{what}"), bytes)
     }
 }
 
@@ -74,10 +112,11 @@ pub fn write_below(folder: &Path, path: &Path, bytes: &[u8]) -> Result<(), Strin
 }
 
 /// Input is written beside the reading, since either pipe may fill up.
-fn feed(command: &mut Command, input: &[u8]) -> std::io::Result<std::process::Output> {
+fn feed(command: &mut Command, input: &[u8]) -> std::io::Result<Output> {
     let mut child = command
         .stdin(Stdio::piped())
         .stdout(Stdio::piped())
+        .stderr(Stdio::piped())
         .spawn()?;
     let mut pipe = child.stdin.take().expect("standard input is a pipe");
     thread::scope(|scope| {

@@ -1,11 +1,13 @@
-//! `linkplan` and `linkcnf`, one file a process.
+//! `linkplan`, `linkcnf` and `linkdimacs`, one file a process.
 
 use super::process::Programs;
 use super::{count, Settings, Tally};
+use crate::generate::limits;
 use crate::generate::requests::Subject;
-use crate::programs::{linkcnf, linkplan};
+use crate::programs::{linkcnf, linkdimacs, linkplan};
 use crate::random::Random;
 use crate::sample;
+use crate::write;
 
 /// Keeps these files apart from those of the other comparisons.
 const PARTS: u64 = 1 << 40;
@@ -22,12 +24,29 @@ pub fn compare(settings: &Settings, programs: &Programs) -> Result<Tally, String
         };
         number += 1;
         if let Some(file) = file {
-            compare_one(programs, "linkplan", &file, linkplan(&file), &mut answers)?;
-            compare_one(programs, "linkcnf", &file, linkcnf(&file), &mut answers)?;
+            let printed = [
+                ("linkplan", linkplan(&file)),
+                ("linkcnf", linkcnf(&file)),
+                ("linkdimacs", linkdimacs(&file)),
+            ];
+            for (name, expected) in printed {
+                programs.expect(name, &[], &file, expected.as_bytes())?;
+                count(&mut answers, &format!("{name}: {}", sort_of(&expected)));
+            }
             done += 1;
         }
     }
     Ok(answers)
+}
+
+/// `linkdimacs` prints a text of any length: that of the longest list there is, and
+/// how many bytes it has.
+pub fn compare_longest(settings: &Settings, programs: &Programs) -> Result<usize, String> {
+    let plan = limits::with_longest_list(&mut Random::part(settings.seed, PARTS));
+    let file = write::to_bytes(&plan);
+    let expected = linkdimacs(&file);
+    programs.expect("linkdimacs", &[], &file, expected.as_bytes())?;
+    Ok(expected.len())
 }
 
 /// `linkplan` has a budget of its own, which the reference can afford only where
@@ -39,23 +58,12 @@ fn draw(seed: u64, number: u64) -> Option<Vec<u8>> {
     short.then_some(subject.file)
 }
 
-fn compare_one(
-    programs: &Programs,
-    name: &str,
-    file: &[u8],
-    expected: String,
-    answers: &mut Tally,
-) -> Result<(), String> {
-    let printed = programs.run(name, file)?;
-    if printed != expected.as_bytes() {
-        let printed = String::from_utf8_lossy(&printed);
-        return Err(programs.difference(name, file, &expected, &printed)?);
-    }
-    let first = expected.lines().next().unwrap_or("");
-    let answer = match first.split(' ').next() {
-        Some("s" | "r") => first.split(' ').take(2).collect::<Vec<_>>().join(" "),
+/// What sort of answer a program printed.
+fn sort_of(printed: &str) -> String {
+    let first = printed.lines().next().unwrap_or("");
+    let words: Vec<&str> = first.split(' ').take(2).collect();
+    match words.first() {
+        Some(&("s" | "r" | "p")) => words.join(" "),
         _ => "a list".into(),
-    };
-    count(answers, &format!("{name}: {answer}"));
-    Ok(())
+    }
 }

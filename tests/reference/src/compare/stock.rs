@@ -1,4 +1,4 @@
-//! A stock solver, where there is one: DIMACS in, its own form of answer out.
+//! Stock solvers, where there are any: DIMACS in, their own form of answer out.
 
 use super::process::write_below;
 use super::Settings;
@@ -13,15 +13,19 @@ pub struct Stock {
 }
 
 impl Stock {
-    /// The first that is on the path.
-    pub fn find(settings: &Settings) -> Option<Stock> {
-        let path = env::var_os("PATH")?;
+    /// Those that are on the path.
+    pub fn all(settings: &Settings) -> Vec<Stock> {
+        let path = env::var_os("PATH").unwrap_or_default();
         let there = |name: &&str| env::split_paths(&path).any(|folder| folder.join(name).is_file());
-        let name = ["minisat", "cadical"].into_iter().find(there)?;
-        Some(Stock {
+        let stock = |name: &str| Stock {
             name: name.into(),
             folder: settings.out.clone(),
-        })
+        };
+        ["minisat", "cadical"]
+            .into_iter()
+            .filter(there)
+            .map(stock)
+            .collect()
     }
 
     pub fn solve(
@@ -29,28 +33,37 @@ impl Stock {
         variables: usize,
         clauses: &[Vec<i32>],
     ) -> Result<Option<Vec<bool>>, String> {
+        let answer = self.ask(dimacs(variables, clauses).as_bytes())?;
+        Ok(answer.map(|answer| model(variables, &answer)))
+    }
+
+    /// What the solver prints where it finds a model of a text; an error where it
+    /// cannot read the text, or finds other counts in it than its `p` line's.
+    pub fn ask(&self, text: &[u8]) -> Result<Option<String>, String> {
         let question = self.folder.join("stock.cnf");
         let answer = self.folder.join("stock.answer");
-        write_below(
-            &self.folder,
-            &question,
-            dimacs(variables, clauses).as_bytes(),
-        )?;
+        write_below(&self.folder, &question, text)?;
         let mut command = Command::new(&self.name);
         match self.name.as_str() {
             "minisat" => command.arg("-verb=0").arg(&question).arg(&answer),
             _ => command.arg("-q").arg(&question),
         };
         let output = command.output().map_err(|error| error.to_string())?;
-        let text = match self.name.as_str() {
-            "minisat" => fs::read_to_string(&answer).map_err(|error| error.to_string())?,
-            _ => String::from_utf8_lossy(&output.stdout).into_owned(),
-        };
+        let complaint = String::from_utf8_lossy(&output.stderr);
+        if complaint.contains("header mismatch") {
+            return Err(format!("{}: {complaint}", self.name));
+        }
         // Both solvers end with 10 for a model and with 20 for none.
-        match output.status.code() {
-            Some(10) => Ok(Some(model(variables, &text))),
-            Some(20) => Ok(None),
-            _ => Err(format!("{} ended with {}", self.name, output.status)),
+        match (output.status.code(), self.name.as_str()) {
+            (Some(10), "minisat") => fs::read_to_string(&answer)
+                .map(Some)
+                .map_err(|error| error.to_string()),
+            (Some(10), _) => Ok(Some(String::from_utf8_lossy(&output.stdout).into_owned())),
+            (Some(20), _) => Ok(None),
+            _ => Err(format!(
+                "{} ended with {}: {complaint}",
+                self.name, output.status
+            )),
         }
     }
 }

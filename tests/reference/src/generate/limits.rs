@@ -171,3 +171,12 @@ pub fn full(random: &mut Random) -> PlanFile {
     }
     plan
 }
+
+/// The file with the longest written-out list: "reaches" has the most levels.
+pub fn with_longest_list(random: &mut Random) -> PlanFile {
+    let mut plan = full(random);
+    for atom in &mut plan.atoms {
+        atom.kind = Kind::Reaches;
+    }
+    plan
+}

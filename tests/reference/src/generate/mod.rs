@@ -1,12 +1,14 @@
-//! Seeded generators of plan files and requests.
+//! Seeded generators of plan files, texts of rules and requests.
 
 pub mod build;
 pub mod damaged;
+pub mod layout;
 pub mod limits;
 pub mod metro;
 pub mod requests;
 pub mod scattered;
 pub mod survey;
+pub mod texts;
 
 use crate::file::PlanFile;
 use crate::random::Random;

@@ -1,11 +1,15 @@
-//! Requests about drawn files: all six calls, with good and bad assignments,
-//! atoms, budgets and rooms.
+//! Requests about drawn files: all eight calls, with good and bad assignments,
+//! atoms, budgets, texts and rooms.
 
-use super::{file, sort, Sort};
+use super::{file, sort, texts, Sort};
 use crate::clauses;
+use crate::dimacs;
 use crate::file::{read, PlanFile};
 use crate::meaning::{OFF, ON, OPEN};
-use crate::protocol::{Request, CLOSE, JUDGE, MOST_ROOM, READ, REASON, SEARCH, WRITE_CLAUSES};
+use crate::protocol::{
+    Request, CLOSE, JUDGE, MOST_ROOM, READ, READ_DIMACS, REASON, SEARCH, WRITE_CLAUSES,
+    WRITE_DIMACS,
+};
 use crate::random::Random;
 use crate::reason::{reason, Reason};
 use crate::search::{search, Outcome, Searched};
@@ -66,12 +70,14 @@ impl Subject {
             .plan
             .as_ref()
             .is_some_and(|known| !known.plan.atoms.is_empty());
-        match random.below(14) {
+        match random.below(20) {
             0 => READ,
             1 | 2 => JUDGE,
             3..=5 => CLOSE,
             6..=8 if has_atoms || random.chance(10) => REASON,
             12 | 13 => WRITE_CLAUSES,
+            14 | 15 => WRITE_DIMACS,
+            16.. => READ_DIMACS,
             _ => SEARCH,
         }
     }
@@ -87,6 +93,8 @@ impl Subject {
                 REASON => known.ask_reason(&mut request, random),
                 SEARCH => known.ask_search(&mut request, random),
                 WRITE_CLAUSES => known.ask_write_clauses(&mut request, random),
+                WRITE_DIMACS => known.ask_write_dimacs(&mut request, random),
+                READ_DIMACS => known.ask_read_dimacs(&mut request, random),
                 _ => (),
             }
         }
@@ -142,14 +150,26 @@ impl Known {
     }
 
     fn ask_write_clauses(&self, request: &mut Request, random: &mut Random) {
-        let needed = clauses::counts(&self.plan).numbers;
-        // A long list is written now and then; mostly it is refused.
-        let short = needed <= 3_000 || needed <= MOST_ROOM && random.chance(10);
-        request.room = if short {
-            room(needed, random)
-        } else {
-            random.below(200) as u16
+        request.room = long_room(clauses::counts(&self.plan).numbers, random);
+    }
+
+    fn ask_write_dimacs(&self, request: &mut Request, random: &mut Random) {
+        let numbers = clauses::counts(&self.plan).numbers;
+        // A list too long for any room has a longer text.
+        let needed = match numbers <= MOST_ROOM {
+            true => dimacs::print(&self.plan).len(),
+            false => numbers,
         };
+        request.room = long_room(needed, random);
+    }
+
+    fn ask_read_dimacs(&self, request: &mut Request, random: &mut Random) {
+        let text = texts::text(&self.plan, random);
+        request.room = match dimacs::read(&self.plan, &text) {
+            Ok(clauses) => room(dimacs::records(&clauses).len(), random),
+            Err(_) => random.below(12) as u16,
+        };
+        request.set_text(&text);
     }
 
     /// Around B where B is known, else what the reference can afford.
@@ -216,6 +236,15 @@ fn reason_length(plan: &PlanFile, values: &[i8], atom: u16) -> usize {
     match reason(plan, values, &plan.atoms[usize::from(atom) - 1]) {
         Reason::Holds(clause) | Reason::Fails(clause) => clause.len(),
         Reason::Open => 0,
+    }
+}
+
+/// A long answer is written now and then; mostly it is refused.
+fn long_room(needed: usize, random: &mut Random) -> u16 {
+    if needed <= 3_000 || needed <= MOST_ROOM && random.chance(10) {
+        room(needed, random)
+    } else {
+        random.below(200) as u16
     }
 }
 

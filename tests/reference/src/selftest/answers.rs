@@ -1,6 +1,7 @@
 //! The requests' own road: a request comes back from its bytes, and a buffer
 //! changes only where a call wrote its answer.
 
+use crate::dimacs::record_bytes;
 use crate::generate::requests::Subject;
 use crate::protocol::{self, line, Request, BEFORE};
 use crate::random::Random;
@@ -29,6 +30,11 @@ fn check_buffer(request: &Request) {
         "closed" | "plan" => places.len(),
         "holds" | "fails" => words[1].parse().expect("a count"),
         "written" => words[3].parse().expect("a count"),
+        "printed" => words[1].parse().expect("a count"),
+        "rules" => {
+            let count = |word: &str| word.parse().expect("a count");
+            record_bytes(count(words[1]), count(words[2]))
+        }
         _ => 0,
     };
     assert!(

@@ -2,6 +2,7 @@
 
 mod answers;
 mod known;
+mod rules;
 mod solver;
 
 use crate::brute;
@@ -22,10 +23,12 @@ use crate::written::continuations;
 /// Panics at the first difference, with the seed and the file in the message.
 pub fn run(seed: u64, files: usize) -> String {
     known::check();
+    rules::check_known();
     for number in 0..files as u64 {
         let mut random = Random::part(seed, number);
         check_reading(&mut random);
         check_small(&mut random);
+        rules::check(&mut random);
         solver::check(&mut random);
         if number % 4 == 0 {
             answers::check(&mut random);

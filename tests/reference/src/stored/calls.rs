@@ -1,24 +1,29 @@
-//! The stored stream over all six calls: cases chosen by hand, then drawn ones.
+//! The stored stream over all eight calls: cases chosen by hand, then drawn ones.
 
+use super::texts;
 use crate::file::{Kind, PlanFile};
 use crate::generate::requests::requests as drawn;
 use crate::protocol::{Request, CLOSE, JUDGE, READ, REASON, SEARCH, WRITE_CLAUSES};
 use crate::sample;
 use crate::write::to_bytes;
+use std::io::Result;
 
 const SEED: u64 = 2;
-const DRAWN: usize = 400;
-/// Longer files would make the stored stream large and say nothing new.
+const DRAWN: usize = 600;
+/// Longer files and texts would make the stored stream large and say nothing new.
 const LARGEST: usize = 700;
 
-pub fn requests() -> Vec<Request> {
+pub fn requests() -> Result<Vec<Request>> {
     let mut requests = sample_requests();
     requests.extend(small_cases());
     requests.extend(shared_cases());
     requests.extend(hop_cases());
     requests.extend(refused_file());
-    requests.extend(drawn(SEED, DRAWN, LARGEST));
-    requests
+    requests.extend(texts::requests()?);
+    let mut some = drawn(SEED, DRAWN, LARGEST);
+    some.retain(|request| request.assignment.len() <= LARGEST);
+    requests.extend(some);
+    Ok(requests)
 }
 
 fn ask(call: u8, file: &[u8]) -> Request {

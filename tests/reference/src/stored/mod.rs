@@ -7,6 +7,7 @@ pub mod calls;
 mod contents;
 mod order;
 mod refused;
+pub mod texts;
 
 use crate::brute;
 use crate::calls::read;
