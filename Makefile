@@ -1,11 +1,11 @@
 # make           proves every crate, builds the programs and runs linkplan on the sample
 # make test      the whole gate: proofs from nothing, must-fail edits, programs, comparison with the independent reference
 # make compare   the comparison alone: N=files, CALLS=calls, SEED=seed
-# make bench     time per branching, walk, closing and number written, beside a hand-written yardstick
+# make bench     time per branching, walk, closing, number written and printed, and byte of rules read, beside a hand-written yardstick
 # make fmt       lays the sources out
 
 N ?= 5000
-CALLS ?= 20000
+CALLS ?= 28000
 SEED ?= 1
 
 .PHONY: all test compare bench fmt

@@ -1,14 +1,20 @@
-//! The yardstick's search against the reference's: outcome, plan and count.
+//! The yardstick's search against the reference's: outcome, plan and count. And its
+//! texts: every byte that it prints, and every clause or refusal that it reads.
 
-use crate::{engine, heavy};
+use crate::print::print;
+use crate::{engine, heavy, rules};
+use reference::dimacs;
 use reference::file::{read, PlanFile};
 use reference::generate::requests::affordable;
-use reference::generate::{file, sort};
+use reference::generate::{file, sort, texts};
 use reference::random::Random;
 use reference::search::{search, Outcome};
 
 /// The reference is slow on heavy files, so it gets few branchings there.
 const HEAVY_BRANCHINGS: u32 = 1_500;
+
+/// And it is slow at printing, so a drawn file keeps the atoms that have room here.
+const DRAWN_NUMBERS: usize = 20_000;
 
 pub fn run(seed: u32, files: u32) -> Result<(), String> {
     let mut accepted = 0;
@@ -21,10 +27,15 @@ pub fn run(seed: u32, files: u32) -> Result<(), String> {
             let name = format!("file {number} of seed {seed}");
             compare(&name, &plan, budget)?;
             compare(&name, &plan, random.below(9) as u32)?;
+            compare_text(&name, &heavy::shortened(&plan, DRAWN_NUMBERS))?;
+            compare_rules(&name, &plan, &texts::text(&plan, &mut random))?;
         }
     }
     for heavy in heavy::files() {
         compare(heavy.name, &heavy.plan, HEAVY_BRANCHINGS)?;
+        compare_text(heavy.name, &heavy::shortened(&heavy.plan, heavy::ROOM))?;
+        let (bare, text) = heavy::own_rules(&heavy.plan);
+        compare_rules(heavy.name, &bare, &text)?;
     }
     println!("check: seed {seed}, {accepted} drawn files and 5 heavy ones, no difference");
     Ok(())
@@ -46,4 +57,36 @@ fn compare(name: &str, plan: &PlanFile, budget: u32) -> Result<(), String> {
         said(&theirs.outcome),
         theirs.branchings
     ))
+}
+
+fn compare_text(name: &str, plan: &PlanFile) -> Result<(), String> {
+    let mut mine = Vec::new();
+    print(plan, &mut mine);
+    let theirs = dimacs::print(plan).into_bytes();
+    if mine == theirs {
+        return Ok(());
+    }
+    let at = mine.iter().zip(&theirs).take_while(|(a, b)| a == b).count();
+    Err(format!("{name}: the text differs from byte {at} on\n"))
+}
+
+fn compare_rules(name: &str, plan: &PlanFile, text: &[u8]) -> Result<(), String> {
+    let mut table = Vec::new();
+    let mine = rules::read(plan, text, &mut table).map(|count| (count, table));
+    let theirs = dimacs::read(plan, text).map(|clauses| (clauses.len(), flat(&clauses)));
+    if mine == theirs {
+        return Ok(());
+    }
+    Err(format!(
+        "{name}, a text of {} bytes: yardstick {mine:?}, reference {theirs:?}\n",
+        text.len()
+    ))
+}
+
+/// Each clause ended by 0.
+fn flat(clauses: &[Vec<i16>]) -> Vec<i16> {
+    clauses
+        .iter()
+        .flat_map(|clause| clause.iter().copied().chain([0]))
+        .collect()
 }

@@ -1,7 +1,10 @@
 //! Five heavy files. Each has more branchings than the default budget, so that
 //! time per branching is measured deep in the tree, where searches spend it.
 
+use crate::print::print;
+use reference::clauses::counts;
 use reference::file::{read, PlanFile, ATOMS, EDGES, NODES};
+use reference::generate::limits::with_longest_list;
 use reference::random::Random;
 use reference::write::to_bytes;
 use std::fs;
@@ -46,17 +49,40 @@ pub fn files() -> Vec<Heavy> {
 pub fn write_files(folder: &Path) -> Result<(), String> {
     let said = |error: std::io::Error| format!("{}: {error}\n", folder.display());
     fs::create_dir_all(folder).map_err(said)?;
-    for heavy in files() {
-        let bytes = to_bytes(&heavy.plan);
-        assert_eq!(
-            read(&bytes).as_ref(),
-            Ok(&heavy.plan),
-            "{} is accepted",
-            heavy.name
-        );
-        fs::write(folder.join(format!("{}.plan", heavy.name)), bytes).map_err(said)?;
+    let mut plans: Vec<_> = files()
+        .into_iter()
+        .map(|heavy| (heavy.name, heavy.plan))
+        .collect();
+    plans.push(("longest", with_longest_list(&mut Random::new(1))));
+    for (name, plan) in plans {
+        let bytes = to_bytes(&plan);
+        assert_eq!(read(&bytes).as_ref(), Ok(&plan), "{name} is accepted");
+        fs::write(folder.join(format!("{name}.plan")), bytes).map_err(said)?;
     }
     Ok(())
+}
+
+/// How many numbers a list may have that is written or printed to be timed, as in
+/// `linkbench`.
+pub const ROOM: usize = 500_000;
+
+/// The file without its last atoms, so that its list has room.
+pub fn shortened(plan: &PlanFile, room: usize) -> PlanFile {
+    let mut plan = plan.clone();
+    while counts(&plan).numbers > room {
+        plan.atoms.pop();
+    }
+    plan
+}
+
+/// The file without its clauses, and their text.
+pub fn own_rules(plan: &PlanFile) -> (PlanFile, Vec<u8>) {
+    let mut bare = plan.clone();
+    bare.atoms.clear();
+    let mut text = Vec::new();
+    print(&bare, &mut text);
+    bare.clauses.clear();
+    (bare, text)
 }
 
 /// Random three-literal clauses, 4.3 for each variable, where plans run out.

@@ -8,6 +8,8 @@ mod engine;
 mod graph;
 mod heavy;
 mod literals;
+mod print;
+mod rules;
 mod time;
 
 use std::path::Path;
@@ -15,10 +17,10 @@ use std::process::ExitCode;
 
 const USAGE: &str = "\
 usage: yardstick COMMAND
-  files DIR            the five heavy plan files into DIR
+  files DIR            the five heavy plan files into DIR, and the one with the longest list
   deep DIR             files whose search ends deep in its tree into DIR, and what linkplan prints
-  check [SEED [FILES]] the yardstick's search against the reference's, on drawn and heavy files
-  time [BRANCHINGS]    time per branching on the heavy files, and per walk, closing and number
+  check [SEED [FILES]] the yardstick's search and texts against the reference's, on drawn and heavy files
+  time [BRANCHINGS]    time per branching on the heavy files, and per walk, closing, number and byte
 ";
 
 fn main() -> ExitCode {

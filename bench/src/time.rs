@@ -7,7 +7,9 @@
 use crate::clock::time;
 use crate::engine::{self, Engine};
 use crate::graph::{walk, NONE};
-use crate::heavy;
+use crate::heavy::{self, own_rules, shortened, ROOM};
+use crate::print::print;
+use crate::rules;
 use reference::clauses;
 use reference::file::{read, PlanFile, NODES};
 use reference::write::to_bytes;
@@ -102,21 +104,23 @@ fn once(engine: &Timed, file: &[u8], branchings: u32) -> f64 {
 }
 
 /// The steps by themselves, done by hand: a walk with everything lit, a closing
-/// from all open, a number of the written clauses, and a reading, which is the
-/// reference's.
+/// from all open, a number of the written clauses and a reading, which are the
+/// reference's, a number printed, and a byte of rules read.
 fn time_steps() {
     println!("\nsteps by hand, in nanoseconds");
     println!(
-        "{:<10}{:>12}{:>12}{:>12}{:>12}",
-        "file", "walk", "closing", "number", "reading"
+        "{:<10}{:>12}{:>12}{:>12}{:>12}{:>12}{:>12}",
+        "file", "walk", "closing", "number", "reading", "printed", "byte"
     );
     for heavy in heavy::files() {
         let walk = time_walk(&heavy.plan);
         let closing = time_closing(&heavy.plan);
         let number = time_number(&heavy.plan);
         let reading = time_reading(&to_bytes(&heavy.plan));
+        let printed = time_printed(&heavy.plan);
+        let byte = time_byte(&heavy.plan);
         println!(
-            "{:<10}{walk:>12.0}{closing:>12.0}{number:>12.2}{reading:>12.0}",
+            "{:<10}{walk:>12.0}{closing:>12.0}{number:>12.2}{reading:>12.0}{printed:>12.2}{byte:>12.2}",
             heavy.name
         );
     }
@@ -161,15 +165,38 @@ fn time_reading(bytes: &[u8]) -> f64 {
     time.as_nanos() as f64 / TIMES as f64
 }
 
-/// The list of the first atoms, up to half a million numbers.
+/// The list of the first atoms, as far as there is room.
 fn time_number(plan: &PlanFile) -> f64 {
-    let mut plan = plan.clone();
-    while clauses::counts(&plan).numbers > 500_000 {
-        plan.atoms.pop();
-    }
+    let plan = shortened(plan, ROOM);
     let numbers = clauses::counts(&plan).numbers;
     let time = best(|| {
         black_box(clauses::write(black_box(&plan)));
     });
     time.as_nanos() as f64 / numbers as f64
+}
+
+/// The same list as text.
+fn time_printed(plan: &PlanFile) -> f64 {
+    let plan = shortened(plan, ROOM);
+    let numbers = clauses::counts(&plan).numbers;
+    let mut text = Vec::new();
+    let time = best(|| {
+        print(black_box(&plan), &mut text);
+        black_box(&text);
+    });
+    time.as_nanos() as f64 / numbers as f64
+}
+
+/// The file's own clauses, from their text.
+fn time_byte(plan: &PlanFile) -> f64 {
+    const TIMES: usize = 200;
+    let (bare, text) = own_rules(plan);
+    let mut table = Vec::new();
+    let time = best(|| {
+        for _ in 0..TIMES {
+            black_box(rules::read(&bare, black_box(&text), &mut table).is_ok());
+            black_box(&table);
+        }
+    });
+    time.as_nanos() as f64 / (TIMES * text.len()) as f64
 }
