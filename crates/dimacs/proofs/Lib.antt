@@ -15,4 +15,5 @@ pub mod Spelling
 pub mod ReadNumbers
 pub mod ReadWords
 pub mod ReadBack
+pub mod LoneZero
 pub mod TextSample

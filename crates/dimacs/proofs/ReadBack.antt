@@ -1,18 +1,18 @@
 -- Clauses printed and read again stay the same, in order.
 -- Assumes nothing.
-use Prim.Native.Nat.{ℕ, zero, suc, _+_, _≤_, _<_}
+use Prim.Native.Nat.{ℕ, zero, suc, _+_, _≤_}
 use mathlib.Core.Path.{_≡_, refl, sym, _∙_}
 use mathlib.Core.Bool.{Bool, true, false}
-use mathlib.Core.List.{List, [], _∷_, _++_, append-assoc, append-nil, List·Memᴰ, List·Memᴰ·head, List·Memᴰ·tail}
+use mathlib.Core.List.{List, [], _∷_, _++_, append-assoc, append-nil, List·Memᴰ·head, List·Memᴰ·tail}
 use native.Mathlib.Omega.{arith}
-use borrow.Author.Tests.{le-leb, lt-ltb}
+use borrow.Author.Tests.{le-leb}
 use lib.IntN.{ℤ, pos, negsuc}
 use lib.ListN.{length, length-append}
 use lib.Seq.{append-snoc}
-use Rattle.plan.specs.Ranged.{LiteralFits}
+use Rattle.plan.specs.Ranged.{LiteralFits, LiteralsFit, InRange}
 use Rattle.plan.specs.Written.{flat}
 use Rattle.dimacs.specs.Words.{blank, lineEnd, divides, Word, between, last, words}
-use Rattle.dimacs.specs.Reading.{Rule, good, same, format, nothing, longer, turn, clauses, behind, count, variables, cnf, whole, readText, literalsOf, InRange}
+use Rattle.dimacs.specs.Reading.{Rule, good, same, format, nothing, longer, endedAt, turn, clauses, behind, count, variables, cnf, whole, readText, literalsOf}
 use Rattle.dimacs.specs.Printing.{numeral, entry, entries, headLine}
 use Rattle.dimacs.proofs.Digits.{entries-append}
 use Rattle.dimacs.proofs.ReadNumbers.{numeral-reads, minus-reads}
@@ -32,22 +32,21 @@ module _ (end p v c : ℕ) (small : v ≤ 2147483647) where
       rw (entry-reads leads at (negsuc n) rest, minus-reads n (omega arith), le-leb (suc n) v (omega arith))
 
   -- the 0 behind a clause
-  end-reads : (done : List Rule) (r : Rule) (leads : Bool) (at : ℕ) (rest : List ℕ) → 0 < length (r .literals)
-      → clauses end p v c done r (words (between leads) at (entry (pos 0) ++ rest)) ≡ clauses end p v c (done ++ (r ∷ [])) nothing (words (between true) (at + length (entry (pos 0))) rest)
+  end-reads : (done : List Rule) (r : Rule) (leads : Bool) (at : ℕ) (rest : List ℕ)
+      → clauses end p v c done r (words (between leads) at (entry (pos 0) ++ rest)) ≡ clauses end p v c (done ++ (endedAt r at ∷ [])) nothing (words (between true) (at + length (entry (pos 0))) rest)
   unfolding clauses turn
-  end-reads done r leads at rest h =
-      rw (entry-reads leads at (pos 0) rest, numeral-reads 0 (omega arith), lt-ltb 0 (length (r .literals)) h)
+  end-reads done r leads at rest = rw (entry-reads leads at (pos 0) rest, numeral-reads 0 (omega arith))
 
   -- a clause, behind the literals that stand already
-  clause-reads : (C : List ℤ) → ((l : ℤ) → List·Memᴰ l C → LiteralFits v l) → (done : List Rule) (r : Rule) → 0 < length (r .literals ++ C) → (leads : Bool) (at : ℕ) (rest : List ℕ)
+  clause-reads : (C : List ℤ) → LiteralsFit v C → (done : List Rule) (r : Rule) (leads : Bool) (at : ℕ) (rest : List ℕ)
       → (s : Rule) × (s .literals ≡ r .literals ++ C)
       × (clauses end p v c done r (words (between leads) at (entries C ++ (entry (pos 0) ++ rest)))
       ≡ clauses end p v c (done ++ (s ∷ [])) nothing (words (between true) (at + length (entries C ++ entry (pos 0))) rest))
   unfolding entries
-  clause-reads [] f done r h leads at rest = let e = append-nil (r .literals) in (r, sym e, end-reads done r leads at rest (rw e at h))
-  clause-reads (l ∷ C) f done r h leads at rest =
+  clause-reads [] f done r leads at rest = (endedAt r at, sym (append-nil (r .literals)), end-reads done r leads at rest)
+  clause-reads (l ∷ C) f done r leads at rest =
       let e = append-snoc (r .literals) l C in
-      let q = clause-reads C (λ m i. f m (List·Memᴰ·tail i)) done (longer r at l) (rw e h) false (at + length (entry l)) rest in
+      let q = clause-reads C (λ m i. f m (List·Memᴰ·tail i)) done (longer r at l) false (at + length (entry l)) rest in
       let n : at + length (entry l) + length (entries C ++ entry (pos 0)) ≡ at + length (entry l ++ entries C ++ entry (pos 0)) = simp length-append (omega arith) in
       let here = literal-reads done r leads at l (entries C ++ (entry (pos 0) ++ rest)) (f l (List·Memᴰ·head refl)) in
       (q .0, q .1 ∙ e, rw (append-assoc (entry l) (entries C) (entry (pos 0) ++ rest), ← n) (here ∙ q .2))
@@ -60,9 +59,8 @@ module _ (end p v c : ℕ) (small : v ≤ 2147483647) where
   unfolding flat entries literalsOf
   clauses-read [] f done at rest = let e : at ≡ at + 0 = omega arith in ([], refl, rw (append-nil done, ← e))
   clauses-read (C ∷ Cs) f done at rest =
-      let q = clause-reads C (f .literal C (List·Memᴰ·head refl)) done nothing (f .clause C (List·Memᴰ·head refl)) true at (entries (flat Cs) ++ rest) in
-      let g : InRange v Cs = record { clause = λ D m. f .clause D (List·Memᴰ·tail m); literal = λ D m. f .literal D (List·Memᴰ·tail m) } in
-      let t = clauses-read Cs g (done ++ (q .0 ∷ [])) (at + length (entries C ++ entry (pos 0))) rest in
+      let q = clause-reads C (f C (List·Memᴰ·head refl)) done nothing true at (entries (flat Cs) ++ rest) in
+      let t = clauses-read Cs (λ D m. f D (List·Memᴰ·tail m)) (done ++ (q .0 ∷ [])) (at + length (entries C ++ entry (pos 0))) rest in
       let e : entries (C ++ (pos 0 ∷ flat Cs)) ≡ entries C ++ (entry (pos 0) ++ entries (flat Cs)) = entries-append C (pos 0 ∷ flat Cs) in
       let n : at + length (entries C ++ entry (pos 0)) + length (entries (flat Cs)) ≡ at + length (entries (C ++ (pos 0 ∷ flat Cs))) = rw e (simp length-append (omega arith)) in
       let text : entries (C ++ (pos 0 ∷ flat Cs)) ++ rest ≡ entries C ++ (entry (pos 0) ++ (entries (flat Cs) ++ rest)) = rw e (simp append-assoc) in

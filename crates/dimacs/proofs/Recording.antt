@@ -60,7 +60,7 @@ module _ (C : List ℤ) {at : ℕ} {old : List ℕ} (r : Room (clauseRecord C) a
     unfolding clauseRecord
     record-put q = put-then tag (put-then p q)
 
-records-join : (Cs Ds : List (List ℤ)) → records (Cs ++ Ds) ≡ records Cs ++ records Ds
+pub records-join : (Cs Ds : List (List ℤ)) → records (Cs ++ Ds) ≡ records Cs ++ records Ds
 unfolding records
 records-join [] Ds = refl
 records-join (C ∷ Cs) Ds = rw (records-join Cs Ds, append-assoc)

@@ -1,4 +1,4 @@
--- The clauses of a good text are in range: each has a literal, and every literal is one of the `p` line's variables; the rules for a plan are few enough.
+-- The clauses of a good text are in range: every literal is one of the `p` line's variables; the rules for a plan are few enough.
 -- Assumes nothing.
 use mathlib.Core.Path.{_≡_, refl, sym, subst}
 use mathlib.Core.Bool.{Bool, true, false, not, cond}
@@ -7,51 +7,41 @@ use mathlib.Core.Option.{Option, none, some}
 use mathlib.Core.List.{List, [], _∷_, _++_, List·Memᴰ, List·Memᴰ·append-cases, List·Memᴰ·eq-of-singleton, List·Memᴰ·not-nil}
 use Prim.Native.Nat.{ℕ, zero, suc, _+_, _≤_}
 use native.Mathlib.Omega.{arith}
-use borrow.Author.Tests.{ltb-true, leb-true}
+use borrow.Author.Tests.{leb-true}
 use lib.Dec.{leb, eqb}
 use lib.IntN.{ℤ, pos, negsuc}
 use lib.ListN.{length}
-use Rattle.plan.specs.Ranged.{LiteralFits, literals, maxClauses, maxLiterals}
+use Rattle.plan.specs.Ranged.{LiteralFits, LiteralsFit, InRange, literals, maxClauses, maxLiterals}
 use Rattle.dimacs.proofs.Tallies.{literals-of-more}
 use Rattle.dimacs.proofs.Verdicts.{within}
 use Rattle.dimacs.specs.Numbers.{numberIn}
 use Rattle.dimacs.specs.Words.{Word, wordsOf}
-use Rattle.dimacs.specs.Reading.{Rule, Text, bad, good, check, same, problem, format, counted, notBelow, nothing, begun, longer, Turn, wrong, goes, taken, turn, onward, clauses, next, onLine, behind, count, variables, cnf, whole, readText, literalsOf, firstOver, Rules, refused, rules, require, limited, rulesOf, readRules, InRange}
+use Rattle.dimacs.specs.Reading.{Rule, Text, bad, good, check, same, problem, format, counted, notBelow, nothing, begun, longer, endedAt, Turn, wrong, goes, taken, turn, onward, clauses, next, onLine, behind, count, variables, cnf, whole, readText, literalsOf, firstOver, Rules, refused, rules, require, limited, rulesOf, readRules}
 
--- what holds of the clause that is not ended, and of those that are
-abbrev Fits : ℕ → List ℤ → Type 0
-Fits v C = (l : ℤ) → List·Memᴰ l C → LiteralFits v l
-
+-- what holds of the clauses that are ended
 abbrev Ended : ℕ → List Rule → Type 0
-Ended v rs = (C : List ℤ) → List·Memᴰ C (literalsOf rs) → (1 ≤ length C) × Fits v C
+Ended v rs = InRange v (literalsOf rs)
 
 -- one more at the end
 member-snoc : {A : Type 0} (P : A → Type 0) (xs : List A) (x : A) → ((a : A) → List·Memᴰ a xs → P a) → P x → (a : A) → List·Memᴰ a (xs ++ (x ∷ [])) → P a
 member-snoc P xs x all one a m = ⊎-elim (λ n. all a n) (λ n. subst P (sym (List·Memᴰ·eq-of-singleton n)) one) (List·Memᴰ·append-cases xs m)
 
-all-snoc : (v : ℕ) (rs : List Rule) (r : Rule) → Ended v rs → (1 ≤ length (r .literals)) × Fits v (r .literals) → Ended v (rs ++ (r ∷ []))
-all-snoc v rs r all one C m = member-snoc (λ C. (1 ≤ length C) × Fits v C) (literalsOf rs) (r .literals) all one C (subst (List·Memᴰ C) (literals-of-more rs r) m)
+all-snoc : (v : ℕ) (rs : List Rule) (r : Rule) → Ended v rs → LiteralsFit v (r .literals) → Ended v (rs ++ (r ∷ []))
+all-snoc v rs r all one C m = member-snoc (LiteralsFit v) (literalsOf rs) (r .literals) all one C (subst (List·Memᴰ C) (literals-of-more rs r) m)
 
 -- what holds of a turn: wrong, or clauses in range
 abbrev Fair : ℕ → Turn → Type 0
 Fair v wrong = Unit {0}
-Fair v (goes done r) = Ended v done × Fits v (r .literals)
+Fair v (goes done r) = Ended v done × LiteralsFit v (r .literals)
 
-module _ (v : ℕ) (done : List Rule) (r : Rule) (at : ℕ) (all : Ended v done) (fits : Fits v (r .literals)) where
-  none-fits : Fits v []
-  none-fits l m = absurd (List·Memᴰ·not-nil m)
-
-  end-fair : (b : Bool) → begun r ≡ b → Fair v (cond b (goes (done ++ (r ∷ [])) nothing) wrong)
-  end-fair true e = (all-snoc v done r all (ltb-true 0 (length (r .literals)) e, fits), none-fits)
-  end-fair false e = tt
-
+module _ (v : ℕ) (done : List Rule) (r : Rule) (at : ℕ) (all : Ended v done) (fits : LiteralsFit v (r .literals)) where
   literal-fair : (l : ℤ) → (b : Bool) → (b ≡ true → LiteralFits v l) → Fair v (cond b (goes done (longer r at l)) wrong)
   literal-fair l true h = (all, member-snoc (LiteralFits v) (r .literals) l fits (h refl))
   literal-fair l false h = tt
 
   fair : (z : Option ℤ) → Fair v (taken v done r at z)
   fair none = tt
-  fair (some (pos zero)) = end-fair (begun r) refl
+  fair (some (pos zero)) = (all-snoc v done (endedAt r at) all fits, λ l m. absurd (List·Memᴰ·not-nil m))
   fair (some (pos (suc n))) = literal-fair (pos (suc n)) (leb (suc n) v) (λ e. record { low = omega arith; high = leb-true (suc n) v e })
   fair (some (negsuc n)) = literal-fair (negsuc n) (leb (suc n) v) (λ e. record { low = omega arith; high = leb-true (suc n) v e })
 
@@ -64,12 +54,12 @@ sound-check : (b : Bool) (at : ℕ) (t : Text) → Sound t → Sound (check b at
 sound-check true at t h = h
 sound-check false at t h = tt
 
-sound-onward : (v at : ℕ) (f : List Rule → Rule → Text) → ((done : List Rule) (r : Rule) → Ended v done → Fits v (r .literals) → Sound (f done r)) → (t : Turn) → Fair v t → Sound (onward at f t)
+sound-onward : (v at : ℕ) (f : List Rule → Rule → Text) → ((done : List Rule) (r : Rule) → Ended v done → LiteralsFit v (r .literals) → Sound (f done r)) → (t : Turn) → Fair v t → Sound (onward at f t)
 sound-onward v at f h wrong k = tt
 sound-onward v at f h (goes done r) k = h done r (k .0) (k .1)
 
 module _ (end : ℕ) where
-  clauses-sound : (p v c : ℕ) (ws : List Word) (done : List Rule) (r : Rule) → Ended v done → Fits v (r .literals) → Sound (clauses end p v c done r ws)
+  clauses-sound : (p v c : ℕ) (ws : List Word) (done : List Rule) (r : Rule) → Ended v done → LiteralsFit v (r .literals) → Sound (clauses end p v c done r ws)
   unfolding clauses turn
   clauses-sound p v c [] done r all fits = sound-check (not (begun r)) end (good p v c done) all
   clauses-sound p v c (w ∷ ws) done r all fits =
@@ -103,12 +93,9 @@ module _ (end : ℕ) where
       (line-sound rest₂ _ (λ w₃ rest₃. counted-sound (notBelow (numberIn (w₃ .bytes))) (w₃ .at) _ (λ v.
       line-sound rest₃ _ (λ w₄ rest₄. counted-sound (notBelow (numberIn (w₄ .bytes))) (w₄ .at) _ (λ c. behind-sound (w .at) v c rest₄))))))))
 
-in-range : (v : ℕ) (rs : List Rule) → Ended v rs → InRange v (literalsOf rs)
-in-range v rs h = record { clause = λ C m. h C m .0; literal = λ C m. h C m .1 }
-
 pub good-in-range : (text : List ℕ) {p v c : ℕ} {rs : List Rule} → readText text ≡ good p v c rs → InRange v (literalsOf rs)
 unfolding readText
-good-in-range text {v = v} {rs = rs} e = in-range v rs (subst Sound e (whole-sound (length text) (wordsOf text)))
+good-in-range text e = subst Sound e (whole-sound (length text) (wordsOf text))
 
 -- the rules of a reading that has them
 abbrev pub rulesIn : Rules → List Rule
@@ -135,7 +122,7 @@ module _ (variables clauses literal : ℕ) (few : clauses ≤ maxClauses) (short
   met-limited (some at) r h = tt
 
   wider : (v : ℕ) (rs : List Rule) → v ≤ variables → Ended v rs → InRange variables (literalsOf rs)
-  wider v rs h all = record { clause = λ C m. all C m .0; literal = λ C m l k. let f = all C m .1 l k in record { low = f .low; high = omega (arith, f .high) } }
+  wider v rs h all C m l k = let f = all C m l k in record { low = f .low; high = omega (arith, f .high) }
 
   met-text : (t : Text) → Sound t → Met (rulesOf variables clauses literal t)
   met-text (bad at) s = tt

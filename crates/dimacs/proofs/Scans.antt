@@ -20,7 +20,6 @@ use Rattle.dimacs.specs.Reading as reading
 use Rattle.dimacs.specs.Reading.{Rule, Text, bad, good, nothing, begun, check, taken, turn, onward, clauses, literalsOf, firstOver}
 use Rattle.dimacs.specs.Scanning.{left, part, Ahead, Tallied, TurnIs, ScanIs}
 use Rattle.dimacs.specs.declared.words.Word.{Word}
-use Rattle.dimacs.specs.declared.rules.Limit.the-variants as limit
 use Rattle.dimacs.specs.declared.rules.Tally.{Tally}
 use Rattle.dimacs.specs.declared.rules.Turn.{Turn}
 use Rattle.dimacs.specs.declared.rules.Turn.the-variants as turned
@@ -36,7 +35,7 @@ pub record Underway (a b : ℕ) (text : List ℕ) (p v c : ℕ) (x : Text) (befo
 
 -- nothing yet
 pub begins : (a b : ℕ) (text : List ℕ) (p v c : ℕ) (table : List ℤ) (at : ℕ)
-    → Underway a b text p v c (clauses (length text) p v c [] nothing (left (between false) text at)) table table (record { clauses = 0; literals = 0; limit = limit.Within; start = 0; unended = 0 }) at
+    → Underway a b text p v c (clauses (length text) p v c [] nothing (left (between false) text at)) table table (record { clauses = 0; literals = 0; fitting = 0; past = 0; start = 0; unended = 0 }) at
 unfolding literals literalsOf firstOver flat
 begins a b text p v c table at = record {
   done = [];
@@ -46,19 +45,21 @@ begins a b text p v c table at = record {
     literals = refl;
     begins = λ x. absurd (omega (arith, ltb-true 0 0 x));
     unended = refl;
+    fitting = omega arith;
     limit = refl;
     stands = laid-none 0 table;
   };
   same = refl;
 }
 
--- a clause with no literals is none
+-- no literal behind the last 0: no clause is begun
 none-begun : {a b : ℕ} {done : List Rule} {r : Rule} {before after : List ℤ} {t : Tally} → Tallied a b done r before after t → t .unended ≤ 0 → Tallied a b done nothing before after t
 none-begun {done = done} {r = r} h l = record {
   clauses = h .clauses;
   literals = h .literals;
   begins = λ x. absurd (omega (arith, ltb-true 0 0 x));
   unended = omega arith;
+  fitting = h .fitting;
   limit = h .limit;
   stands = laid-as (ap (λ y. flat (literalsOf done) ++ y) (go (r .literals) (omega (arith, h .unended)))) (h .stands);
 }

@@ -7,7 +7,7 @@ use mathlib.Core.List.{List, [], _∷_, _++_, append-assoc, append-nil}
 use mathlib.Core.Option.{Option, none, some}
 use Prim.Native.Nat.{ℕ, suc, _+_, _-_, _≤_, _<_}
 use native.Mathlib.Omega.{arith}
-use borrow.Author.Tests.{ltb-true, lt-ltb, le-leb, lt-leb}
+use borrow.Author.Tests.{ltb-true, lt-ltb, le-ltb, le-leb, lt-leb}
 use lib.Dec.{ltb, leb}
 use lib.IntN.{ℤ, pos}
 use lib.ListN.{length, length-append}
@@ -17,9 +17,8 @@ use Rattle.plan.specs.Written.{flat}
 use Rattle.plan.proofs.ClauseTable.{flat-clause, count-clause}
 use Rattle.plan.proofs.Lists.{le-or-lt}
 use Rattle.plan.proofs.Laying.{laid-as, laid-then}
-use Rattle.dimacs.specs.Reading.{Rule, nothing, begun, longer, literalsOf, firstOver}
-use Rattle.dimacs.specs.Scanning.{limitOf, Tallied}
-use Rattle.dimacs.specs.declared.rules.Limit.{Limit}
+use Rattle.dimacs.specs.Reading.{Rule, nothing, begun, firstWord, longer, endedAt, literalsOf, firstOver}
+use Rattle.dimacs.specs.Scanning.{used, fittingWith, Tallied}
 use Rattle.dimacs.specs.declared.rules.Tally.{Tally}
 
 -- one clause more
@@ -64,51 +63,70 @@ over-more a b (q ∷ done) r =
     go true x z = refl
     go false x z = refl
 
-module _ {a b : ℕ} {done : List Rule} {r : Rule} {before mid : List ℤ} {t : Tally} (h : Tallied a b done r before mid t) where
-  abbrev place : ℕ
-  place = t .literals + t .clauses + t .unended
+module _ {a b : ℕ} {done : List Rule} {r : Rule} {before mid : List ℤ} {t : Tally} (h : Tallied a b done r before mid t) (at : ℕ) where
+  -- the first word of the clause that is not ended: this one, or the one that began it
+  pub first-here : t .unended ≡ 0 → at ≡ firstWord r at
+  first-here u = sym (ap (λ x. cond x (r .at) at) (ap (ltb 0) (sym (h .unended) ∙ u)))
+
+  pub first-before : (t .unended ≡ 0 → ⊥) → t .start ≡ firstWord r at
+  first-before u =
+      let z : begun r ≡ true = lt-ltb 0 (length (r .literals)) (omega (arith, h .unended)) in
+      h .begins z ∙ sym (ap (λ x. cond x (r .at) at) z)
 
   -- a literal goes behind what stands there
-  pub with-literal : {l : ℤ} {at s : ℕ} {after : List ℤ} → Laid (l ∷ []) place mid after (place + 1)
-      → ((t .unended ≡ 0) × (s ≡ at)) ⊎ ((t .unended ≡ 0 → ⊥) × (s ≡ t .start))
-      → Tallied a b done (longer r at l) before after (record { clauses = t .clauses; literals = t .literals; limit = t .limit; start = s; unended = t .unended + 1 })
-  with-literal {l} {at} {s} {after} k e = record {
+  pub with-literal : {l : ℤ} {s : ℕ} {after : List ℤ} → Laid (l ∷ []) (used t) mid after (used t + 1) → s ≡ firstWord r at
+      → Tallied a b done (longer r at l) before after (record { clauses = t .clauses; literals = t .literals; fitting = t .fitting; past = t .past; start = s; unended = t .unended + 1 })
+  with-literal {l} {s} {after} k e = record {
     clauses = h .clauses;
     literals = h .literals;
-    begins = λ x. go e;
+    begins = λ x. e;
     unended = omega (arith, h .unended, length-append (r .literals) (l ∷ []));
+    fitting = h .fitting;
     limit = h .limit;
     stands = rw next (laid-as (append-assoc (flat (literalsOf done)) (r .literals) (l ∷ [])) (laid-then (h .stands) k));
   }
     where
-      go : ((t .unended ≡ 0) × (s ≡ at)) ⊎ ((t .unended ≡ 0 → ⊥) × (s ≡ t .start)) → s ≡ cond (begun r) (r .at) at
-      go (inl (u, y)) = y ∙ sym (ap (λ x. cond x (r .at) at) (ap (ltb 0) (sym (h .unended) ∙ u)))
-      go (inr (u, y)) =
-          let z : begun r ≡ true = lt-ltb 0 (length (r .literals)) (omega (arith, h .unended)) in
-          y ∙ h .begins z ∙ sym (ap (λ x. cond x (r .at) at) z)
-
-      next : t .literals + t .clauses + (t .unended + 1) ≡ place + 1
+      next : t .literals + t .clauses + (t .unended + 1) ≡ used t + 1
       next = omega arith
 
-  -- the 0 goes there
-  pub with-end : {at : ℕ} {limit : Limit} {after : List ℤ} → Laid (pos 0 ∷ []) place mid after (place + 1) → limitOf limit ≡ firstOver a b (done ++ (r ∷ []))
-      → Tallied a b (done ++ (r ∷ [])) nothing before after (record { clauses = t .clauses + 1; literals = t .literals + t .unended; limit = limit; start = at; unended = 0 })
-  with-end {at} {limit} {after} k e = record {
-    clauses = omega (arith, h .clauses, length-append done (r ∷ []));
-    literals = omega (arith, h .literals, h .unended, ap literals (literals-of-more done r), count-clause (literalsOf done) (r .literals));
-    begins = λ x. absurd (omega (arith, ltb-true 0 0 x));
-    unended = refl;
-    limit = e;
-    stands = rw next (laid-as (append-assoc (flat (literalsOf done)) (r .literals) (pos 0 ∷ []) ∙ is) (laid-then (h .stands) k));
-  }
-    where
-      next : t .literals + t .unended + (t .clauses + 1) + 0 ≡ place + 1
-      next = omega arith
+  -- the first clause past the limits, with that clause; how many come before it
+  module _ {fit : Bool} (fits : fit ≡ fitsBehind (a + t .clauses) (b + t .literals + t .unended)) where
+    limit-more : {p : ℕ} → p ≡ cond (ltb (t .fitting) (t .clauses)) (t .past) (firstWord r at)
+        → cond (ltb (fittingWith t fit) (t .clauses + 1)) (some p) none ≡ firstOver a b (done ++ (endedAt r at ∷ []))
+    limit-more {p} e =
+        go (ltb (t .fitting) (t .clauses)) fit refl e
+        ∙ sym (over-more a b done (endedAt r at) ∙ rw (← h .limit, ← h .clauses, ← h .literals, ← h .unended, ← fits))
+      where
+        go : (x y : Bool) → ltb (t .fitting) (t .clauses) ≡ x → p ≡ cond x (t .past) (firstWord r at)
+            → cond (ltb (cond x (t .fitting) (cond y (t .clauses + 1) (t .clauses))) (t .clauses + 1)) (some p) none
+            ≡ orElse (cond x (some (t .past)) none) (cond y none (some (firstWord r at)))
+        go true y u q = rw (lt-ltb (t .fitting) (t .clauses + 1) (omega (arith, h .fitting)), q)
+        go false true u q = rw (le-ltb (t .clauses + 1) (t .clauses + 1) (omega arith))
+        go false false u q = rw (lt-ltb (t .clauses) (t .clauses + 1) (omega arith), q)
 
-      is : flat (literalsOf done) ++ (r .literals ++ (pos 0 ∷ [])) ≡ flat (literalsOf (done ++ (r ∷ []))) ++ []
-      is = sym (append-nil (flat (literalsOf (done ++ (r ∷ [])))) ∙ ap flat (literals-of-more done r) ∙ flat-clause (literalsOf done) (r .literals))
+    fitting-more : fittingWith t fit ≤ t .clauses + 1
+    fitting-more = go (ltb (t .fitting) (t .clauses)) fit
+      where
+        go : (x y : Bool) → cond x (t .fitting) (cond y (t .clauses + 1) (t .clauses)) ≤ t .clauses + 1
+        go true y = omega (arith, h .fitting)
+        go false true = omega arith
+        go false false = omega arith
 
-  -- the limit with that clause
-  pub limit-more : {limit : Limit} {fit : Bool} → begun r ≡ true → t .limit ≡ limit → fit ≡ fitsBehind (a + t .clauses) (b + t .literals + t .unended)
-      → orElse (limitOf limit) (cond fit none (some (t .start))) ≡ firstOver a b (done ++ (r ∷ []))
-  limit-more x y z = rw (← y) (sym (over-more a b done r ∙ rw (← h .limit, ← h .clauses, ← h .literals, ← h .unended, ← z, ← h .begins x)))
+    -- the 0 goes there
+    pub with-end : {f p : ℕ} {after : List ℤ} → Laid (pos 0 ∷ []) (used t) mid after (used t + 1) → f ≡ fittingWith t fit → p ≡ cond (ltb (t .fitting) (t .clauses)) (t .past) (firstWord r at)
+        → Tallied a b (done ++ (endedAt r at ∷ [])) nothing before after (record { clauses = t .clauses + 1; literals = t .literals + t .unended; fitting = f; past = p; start = at; unended = 0 })
+    with-end {f} {p} {after} k g e = record {
+      clauses = omega (arith, h .clauses, length-append done (endedAt r at ∷ []));
+      literals = omega (arith, h .literals, h .unended, ap literals (literals-of-more done (endedAt r at)), count-clause (literalsOf done) (r .literals));
+      begins = λ x. absurd (omega (arith, ltb-true 0 0 x));
+      unended = refl;
+      fitting = rw g fitting-more;
+      limit = rw g (limit-more e);
+      stands = rw next (laid-as (append-assoc (flat (literalsOf done)) (r .literals) (pos 0 ∷ []) ∙ is) (laid-then (h .stands) k));
+    }
+      where
+        next : t .literals + t .unended + (t .clauses + 1) + 0 ≡ used t + 1
+        next = omega arith
+
+        is : flat (literalsOf done) ++ (r .literals ++ (pos 0 ∷ [])) ≡ flat (literalsOf (done ++ (endedAt r at ∷ []))) ++ []
+        is = sym (append-nil (flat (literalsOf (done ++ (endedAt r at ∷ [])))) ∙ ap flat (literals-of-more done (endedAt r at)) ∙ flat-clause (literalsOf done) (r .literals))

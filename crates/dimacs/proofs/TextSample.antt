@@ -29,6 +29,13 @@ pub sample-reads : readText sample-text ≡ good 4 3 2 sample-rules
 unfolding sample-text sample-rules divides moved ended last words isDigit allDigits value magnitude numberIn same turn clauses behind count variables cnf whole readText
 sample-reads = refl
 
+-- Clauses with no literals, first, between and last: "p cnf 1 4", "0", "1 0 0 0".
+pub zeros-read : readText (112 ∷ 32 ∷ 99 ∷ 110 ∷ 102 ∷ 32 ∷ 49 ∷ 32 ∷ 52 ∷ 10 ∷ 48 ∷ 10 ∷ 49 ∷ 32 ∷ 48 ∷ 32 ∷ 48 ∷ 32 ∷ 48 ∷ 10 ∷ [])
+    ≡ good 0 1 4
+    (record { at = 10; literals = [] } ∷ record { at = 12; literals = pos 1 ∷ [] } ∷ record { at = 16; literals = [] } ∷ record { at = 18; literals = [] } ∷ [])
+unfolding divides moved ended last words isDigit allDigits value magnitude numberIn same turn clauses behind count variables cnf whole readText
+zeros-read = refl
+
 -- A literal above the `p` line's count of variables: "p cnf 2 1", "3 0".
 pub above-reads : readText (112 ∷ 32 ∷ 99 ∷ 110 ∷ 102 ∷ 32 ∷ 50 ∷ 32 ∷ 49 ∷ 10 ∷ 51 ∷ 32 ∷ 48 ∷ 10 ∷ []) ≡ bad 10
 unfolding divides moved ended last words isDigit allDigits value magnitude numberIn same turn clauses behind count variables cnf whole readText

@@ -6,7 +6,7 @@ use mathlib.Core.List.{List, [], _∷_, _++_, append-nil}
 use mathlib.Core.Option.{none, some}
 use Prim.Native.Nat.{ℕ, suc, _+_, _-_, _≤_, _<_}
 use native.Mathlib.Omega.{arith}
-use borrow.Author.Tests.{ltb-true, leb-true, le-leb, lt-leb, eq-eqb, ne-eqb}
+use borrow.Author.Tests.{ltb-true, leb-true, lt-ltb, le-ltb, le-leb, lt-leb, eq-eqb, ne-eqb}
 use lib.Dec.{ltb, leb, eqb}
 use lib.IntN.{ℤ}
 use lib.ListN.{length, take, drop, length-take}
@@ -17,11 +17,10 @@ use Rattle.plan.specs.Written.{flat}
 use Rattle.plan.proofs.ClauseTable.{flat-length}
 use Rattle.dimacs.specs.Words.{between}
 use Rattle.dimacs.specs.Reading.{Rule, Text, bad, good, nothing, clauses, literalsOf, firstOver, Rules, refused, rules, rulesOf}
-use Rattle.dimacs.specs.Scanning.{left, HeadingIs, limitOf, Tallied, Read, RulesAre}
+use Rattle.dimacs.specs.Scanning.{left, HeadingIs, Tallied, Read, RulesAre}
 use Rattle.dimacs.specs.declared.head.Head.{Head}
 use Rattle.dimacs.specs.declared.head.Heading.{Heading}
 use Rattle.dimacs.specs.declared.head.Heading.the-variants as heading
-use Rattle.dimacs.specs.declared.rules.Limit.the-variants as limit
 use Rattle.dimacs.specs.declared.rules.Tally.{Tally}
 use Rattle.dimacs.specs.declared.RulesAnswer.{RulesAnswer}
 use Rattle.dimacs.specs.declared.RulesAnswer.the-variants as answer
@@ -49,9 +48,9 @@ within a b (q ∷ rs) e = go (ltb a maxClauses) (leb (b + length (q .literals)) 
     go false y u v e f = let z : _≡_ {A = ℕ} 0 1 = cc in absurd (omega arith)
 
 module _ {clauses literals : ℕ} {rs : List Rule} {before after : List ℤ} {t : Tally} (h : Tallied clauses literals rs nothing before after t) where
-  pub read-is : t .limit ≡ limit.Within → length before ≡ maxTable → Read rs after (t .clauses) (t .literals)
+  pub read-is : t .clauses ≤ t .fitting → length before ≡ maxTable → Read rs after (t .clauses) (t .literals)
   read-is e l =
-      let w = within clauses literals rs (sym (h .limit) ∙ ap limitOf e) in
+      let w = within clauses literals rs (sym (h .limit) ∙ rw (le-ltb (t .fitting) (t .clauses) e)) in
       record {
         clauses = h .clauses;
         literals = h .literals;
@@ -71,11 +70,11 @@ module _ {clauses literals : ℕ} {rs : List Rule} {before after : List ℤ} {t 
       pub many-variables : variables < v → rulesOf variables clauses literals (good at v n rs) ≡ refused 22 at
       many-variables l = rw (counted, lt-leb v variables l)
 
-      pub past-limit : {x : ℕ} → v ≤ variables → t .limit ≡ limit.Over x → rulesOf variables clauses literals (good at v n rs) ≡ refused 7 x
-      past-limit l e = rw (counted, le-leb v variables l, ← h .limit, e)
+      pub past-limit : v ≤ variables → t .fitting < t .clauses → rulesOf variables clauses literals (good at v n rs) ≡ refused 7 (t .past)
+      past-limit l e = rw (counted, le-leb v variables l, ← h .limit, lt-ltb (t .fitting) (t .clauses) e)
 
-      pub within-limit : v ≤ variables → t .limit ≡ limit.Within → rulesOf variables clauses literals (good at v n rs) ≡ rules rs
-      within-limit l e = rw (counted, le-leb v variables l, ← h .limit, e)
+      pub within-limit : v ≤ variables → t .clauses ≤ t .fitting → rulesOf variables clauses literals (good at v n rs) ≡ rules rs
+      within-limit l e = rw (counted, le-leb v variables l, ← h .limit, le-ltb (t .fitting) (t .clauses) e)
 
 -- rules that stand in a front of the table stand in the table
 pub rules-front : (x : Rules) (y : RulesAnswer) (front more : List ℤ) → RulesAre x front y → RulesAre x (front ++ more) y

@@ -1,13 +1,13 @@
 -- What a text reads as. Document 02, C-11, with the readings of docs/DECISIONS.md: refusals 20, 21, 22 and 7.
 -- Assumes nothing.
-use Prim.Native.Nat.{ℕ, zero, suc, _+_, _≤_}
+use Prim.Native.Nat.{ℕ, zero, suc, _+_}
 use mathlib.Core.Bool.{Bool, true, false, not, cond, _&&_}
-use mathlib.Core.List.{List, [], _∷_, _++_, List·Memᴰ}
+use mathlib.Core.List.{List, [], _∷_, _++_}
 use mathlib.Core.Option.{Option, none, some}
 use lib.Dec.{ltb, leb, eqb}
 use lib.IntN.{ℤ, pos, negsuc}
 use lib.ListN.{length}
-use Rattle.plan.specs.Ranged.{maxClauses, maxLiterals, LiteralFits}
+use Rattle.plan.specs.Ranged.{maxClauses, maxLiterals}
 use Rattle.dimacs.specs.Words.{Word, wordsOf}
 use Rattle.dimacs.specs.Numbers.{numberIn}
 
@@ -54,19 +54,25 @@ nothing = record { at = 0; literals = [] }
 abbrev pub begun : Rule → Bool
 begun r = ltb 0 (length (r .literals))
 
--- "7 .. at the clause's first word"
+-- "the clause's first word", for 7: where no literal came before the word at an offset it is that word, so it is the 0 of a clause with no literals
+abbrev pub firstWord : Rule → ℕ → ℕ
+firstWord r at = cond (begun r) (r .at) at
+
 abbrev pub longer : Rule → ℕ → ℤ → Rule
-longer r at l = record { at = cond (begun r) (r .at) at; literals = r .literals ++ (l ∷ []) }
+longer r at l = record { at = firstWord r at; literals = r .literals ++ (l ∷ []) }
+
+abbrev pub endedAt : Rule → ℕ → Rule
+endedAt r at = record { at = firstWord r at; literals = r .literals }
 
 -- What a word behind the `p` line leads to: it is bad, or these clauses are ended and this one is not.
 pub data Turn : Type 0 where
   wrong : Turn
   goes : List Rule → Rule → Turn
 
--- "a literal above the `p` line's variable count", "a clause .. with no literals" are bad
+-- "a literal above the `p` line's variable count" is bad; a 0 with no literal before it is an empty clause (02, C-12)
 abbrev pub taken : ℕ → List Rule → Rule → ℕ → Option ℤ → Turn
 taken variables done r at none = wrong
-taken variables done r at (some (pos zero)) = cond (begun r) (goes (done ++ (r ∷ [])) nothing) wrong
+taken variables done r at (some (pos zero)) = goes (done ++ (endedAt r at ∷ [])) nothing
 taken variables done r at (some (pos (suc n))) = cond (leb (suc n) variables) (goes done (longer r at (pos (suc n)))) wrong
 taken variables done r at (some (negsuc n)) = cond (leb (suc n) variables) (goes done (longer r at (negsuc n))) wrong
 
@@ -147,8 +153,3 @@ rulesOf variables clauses literals (good p v c rs) =
 
 unfoldable pub readRules : ℕ → ℕ → ℕ → List ℕ → Rules
 readRules variables clauses literals text = rulesOf variables clauses literals (readText text)
-
--- Clauses over so many variables: each has a literal, and every literal is one of theirs.
-pub record InRange (variables : ℕ) (Cs : List (List ℤ)) : Type 0 where
-  pub clause : (C : List ℤ) → List·Memᴰ C Cs → 1 ≤ length C
-  pub literal : (C : List ℤ) → List·Memᴰ C Cs → (l : ℤ) → List·Memᴰ l C → LiteralFits variables l

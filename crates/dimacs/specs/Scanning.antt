@@ -2,9 +2,10 @@
 -- Assumes nothing.
 use Prim.Native.Nat.{ℕ, _+_, _-_, _≤_, _<_}
 use mathlib.Core.Path.{_≡_}
-use mathlib.Core.Bool.{Bool, true, false}
+use mathlib.Core.Bool.{Bool, true, false, cond}
 use mathlib.Core.List.{List, [], _∷_, _++_}
 use mathlib.Core.Option.{Option, none, some}
+use lib.Dec.{ltb}
 use lib.IntN.{ℤ}
 use lib.ListN.{length, getD, take, drop}
 use Rattle.plan.specs.Front.{Laid}
@@ -29,8 +30,6 @@ use Rattle.dimacs.specs.declared.head.Count.{Count}
 use Rattle.dimacs.specs.declared.head.Count.the-variants as count
 use Rattle.dimacs.specs.declared.head.Heading.{Heading}
 use Rattle.dimacs.specs.declared.head.Heading.the-variants as heading
-use Rattle.dimacs.specs.declared.rules.Limit.{Limit}
-use Rattle.dimacs.specs.declared.rules.Limit.the-variants as limit
 use Rattle.dimacs.specs.declared.rules.Tally.{Tally}
 use Rattle.dimacs.specs.declared.rules.Turn.{Turn}
 use Rattle.dimacs.specs.declared.rules.Turn.the-variants as turn
@@ -112,10 +111,17 @@ abbrev pub HeadingIs : List ℕ → Text → Heading → Type 0
 HeadingIs text x (heading.Bad at) = x ≡ bad at
 HeadingIs text x (heading.Good h) = (h .end ≤ length text) × (x ≡ clauses (length text) (h .at) (h .variables) (h .count) [] nothing (left (between false) text (h .end)))
 
--- The first clause past the limits.
-abbrev pub limitOf : Limit → Option ℕ
-limitOf limit.Within = none
-limitOf (limit.Over at) = some at
+-- The first clause past the limits, where not all fit.
+abbrev pub limitOf : Tally → Option ℕ
+limitOf t = cond (ltb (t .fitting) (t .clauses)) (some (t .past)) none
+
+-- How many clauses come before that one, with a clause more that fits or does not.
+abbrev pub fittingWith : Tally → Bool → ℕ
+fittingWith t fit = cond (ltb (t .fitting) (t .clauses)) (t .fitting) (cond fit (t .clauses + 1) (t .clauses))
+
+-- How many places of the table are in use, or would be with room for all.
+abbrev pub used : Tally → ℕ
+used t = t .literals + t .clauses + t .unended
 
 -- What stands of the clauses so far: those that are ended and the one that is not, behind the own clauses and literals of a plan file. In the table
 -- stand the literals, each ended clause with its 0, as far as there is room.
@@ -124,13 +130,14 @@ pub record Tallied (ownClauses ownLiterals : ℕ) (done : List Rule) (r : Rule) 
   pub literals : t .literals ≡ literals (literalsOf done)
   pub begins : begun r ≡ true → t .start ≡ r .at
   pub unended : t .unended ≡ length (r .literals)
-  pub limit : limitOf (t .limit) ≡ firstOver ownClauses ownLiterals done
-  pub stands : Laid (flat (literalsOf done) ++ r .literals) 0 before after (t .literals + t .clauses + t .unended)
+  pub fitting : t .fitting ≤ t .clauses
+  pub limit : limitOf t ≡ firstOver ownClauses ownLiterals done
+  pub stands : Laid (flat (literalsOf done) ++ r .literals) 0 before after (used t)
 
 -- A turn counts one place more.
 abbrev pub OneMore : Tally → Turn → Type 0
 OneMore t turn.Wrong = Unit
-OneMore t (turn.Goes u) = u .literals + u .clauses + u .unended ≡ t .literals + t .clauses + t .unended + 1
+OneMore t (turn.Goes u) = used u ≡ used t + 1
 
 -- A word behind the `p` line: the code's turn is the definition's.
 abbrev pub TurnIs : ℕ → ℕ → List ℤ → List ℤ → reading.Turn → Turn → Type 0

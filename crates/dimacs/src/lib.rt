@@ -17,7 +17,6 @@ pub use printing::print_head;
 pub use printing::print_numbers;
 pub use printing::print_table;
 pub use records::put_records;
-use rules::Limit;
 use rules::Scanned;
 use rules::Tally;
 use rules::scan;
@@ -80,9 +79,8 @@ fn judged(plan: Plan, head: Head, tally: Tally) -> RulesAnswer
     if head.variables as usize > wide(plan.variables) {
         return RulesAnswer::Refused(Refusal::TooManyVariables(head.at));
     }
-    let limit = tally.limit;
-    match limit {
-        Limit::Over(at) => RulesAnswer::Refused(Refusal::TooMany(at)),
-        Limit::Within => RulesAnswer::Read(tally.clauses, tally.literals),
+    if tally.fitting < tally.clauses {
+        return RulesAnswer::Refused(Refusal::TooMany(tally.past));
     }
+    RulesAnswer::Read(tally.clauses, tally.literals)
 }

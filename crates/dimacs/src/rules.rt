@@ -8,31 +8,26 @@ use plan::Clause;
 use plan::Plan;
 use plan::literal_of;
 ghost use mathlib.Core.Path.{_≡_};
-ghost use mathlib.Core.Bool.{true, false, _&&_};
+ghost use mathlib.Core.Bool.{false, cond, _&&_};
 ghost use mathlib.Core.List.{List, [], _∷_, _++_};
 ghost use Prim.Native.Nat.{ℕ, _+_, _≤_, _<_};
 ghost use lib.Dec.{ltb, leb};
-ghost use lib.IntN.{ℤ};
+ghost use lib.IntN.{ℤ, pos};
 ghost use lib.ListN.{length};
 ghost use Rattle.plan.specs.Front.{Laid};
 ghost use Rattle.plan.specs.Ranged.{maxVariables, maxClauses, maxLiterals};
 ghost use Rattle.dimacs.specs.Words.{between};
 ghost use Rattle.dimacs.specs.Numbers.{signed};
-ghost use Rattle.dimacs.specs.Reading.{Rule, nothing, begun, longer, taken, firstOver, clauses as Reading·clauses};
-ghost use Rattle.dimacs.specs.Scanning.{left, asNumber, limitOf, Tallied, OneMore, TurnIs, ScanIs};
+ghost use Rattle.dimacs.specs.Reading.{Rule, nothing, firstWord, longer, endedAt, taken, clauses as Reading·clauses};
+ghost use Rattle.dimacs.specs.Scanning.{left, asNumber, used, fittingWith, Tallied, OneMore, TurnIs, ScanIs};
 
-// The first clause with which there are too many clauses or literals: at its first word.
-pub enum Limit {
-    Within,
-    Over(usize),
-}
-
-// The clauses that are ended, their literals, and the first that is too much; and of the clause that is not ended where it starts and how many
-// literals it has.
+// The clauses that are ended, and their literals. How many of them come before the first with which there are too many clauses or literals, and where that
+// one starts, if there is one. Of the clause that is not ended where it starts and how many literals it has.
 pub struct Tally {
     pub clauses: usize,
     pub literals: usize,
-    pub limit: Limit,
+    pub fitting: usize,
+    pub past: usize,
     pub start: usize,
     pub unended: usize,
 }
@@ -58,31 +53,26 @@ fn keep(table: &mut [i16], place: usize, negative: bool, value: u32)
     }
 }
 
-// The clause that is not ended, with one literal more.
-fn with_literal(tally: Tally, negative: bool, value: u32, at: usize, table: &mut [i16]) -> Tally
-    requires { ⌜ tally .literals + tally .clauses + tally .unended + 1 < 18446744073709551616 ⌝ }
-    requires { ⌜ (0 < length (now table) → value ≤ maxVariables) ⌝ }
-    ensures { λ t. ⌜ t .literals + t .clauses + t .unended ≡ tally .literals + tally .clauses + tally .unended + 1 ⌝ }
-    ensures { λ t. ⌜ ((a b : ℕ) (done : List Rule) (r : Rule) (before : List ℤ) → Tallied a b done r before (now (table .entry)) tally → Tallied a b done (longer r at (signed negative value)) before (now (table .exit)) t) ⌝ }
+// The offset of the first word of the clause that is not ended: the word at `at` is the first where no literal came before it.
+fn first_word(tally: Tally, at: usize) -> usize
+    ensures { λ w. ⌜ ((a b : ℕ) (done : List Rule) (r : Rule) (before after : List ℤ) → Tallied a b done r before after tally → w ≡ firstWord r at) ⌝ }
 {
-    keep(
-        table,
-        tally.literals + tally.clauses + tally.unended,
-        negative,
-        value,
-    );
-    let mut start = tally.start;
     if tally.unended == 0 {
-        start = at;
+        return at;
     }
-    let limit = tally.limit;
-    Tally {
-        clauses: tally.clauses,
-        literals: tally.literals,
-        limit: limit,
-        start: start,
-        unended: tally.unended + 1,
-    }
+    tally.start
+}
+
+// The clause that is not ended, with one literal more, which stands in the table behind the others.
+fn with_literal(tally: Tally, at: usize) -> Tally
+    requires { ⌜ used tally + 1 < 18446744073709551616 ⌝ }
+    ensures { λ t. ⌜ used t ≡ used tally + 1 ⌝ }
+    ensures { λ t. ⌜ ((a b : ℕ) (done : List Rule) (r : Rule) (before mid after : List ℤ) (l : ℤ) → Tallied a b done r before mid tally → Laid (l ∷ []) (used tally) mid after (used tally + 1) → Tallied a b done (longer r at l) before after t) ⌝ }
+{
+    let mut next = tally;
+    next.start = first_word(tally, at);
+    next.unended += 1;
+    next
 }
 
 // Whether the clause that is not ended fits beside the plan's own and those before it.
@@ -97,42 +87,45 @@ fn fits(tally: Tally, plan: Plan) -> bool
     tally.literals + tally.unended <= Clause::MAX_LITERALS - plan.literals
 }
 
-// The limit with the clause that is not ended.
-fn limit_with(tally: Tally, plan: Plan) -> Limit
+// How many clauses come before the first that is too much, with the clause that is not ended.
+fn fitting_with(tally: Tally, plan: Plan) -> usize
+    requires { ⌜ used tally + 1 < 18446744073709551616 ⌝ }
     requires { ⌜ (plan .clauses ≤ maxClauses) × (plan .literals ≤ maxLiterals) ⌝ }
-    requires { ⌜ tally .literals + tally .unended < 18446744073709551616 ⌝ }
-    ensures { λ l. ⌜ ((done : List Rule) (r : Rule) (before after : List ℤ) → Tallied (plan .clauses) (plan .literals) done r before after tally → begun r ≡ true → limitOf l ≡ firstOver (plan .clauses) (plan .literals) (done ++ (r ∷ []))) ⌝ }
+    ensures { λ r. ⌜ r ≡ fittingWith tally (ltb (plan .clauses + tally .clauses) maxClauses && leb (plan .literals + tally .literals + tally .unended) maxLiterals) ⌝ }
 {
-    let limit = tally.limit;
-    match limit {
-        Limit::Over(at) => Limit::Over(at),
-        Limit::Within => {
-            if fits(tally, plan) {
-                return Limit::Within;
-            }
-            Limit::Over(tally.start)
-        }
+    if tally.fitting < tally.clauses {
+        return tally.fitting;
     }
+    if fits(tally, plan) {
+        return tally.clauses + 1;
+    }
+    tally.clauses
 }
 
-// The clause is ended.
-fn with_end(tally: Tally, plan: Plan, at: usize, table: &mut [i16]) -> Tally
-    requires { ⌜ tally .literals + tally .clauses + tally .unended + 1 < 18446744073709551616 ⌝ }
-    requires { ⌜ (plan .clauses ≤ maxClauses) × (plan .literals ≤ maxLiterals) ⌝ }
-    ensures { λ t. ⌜ t .literals + t .clauses + t .unended ≡ tally .literals + tally .clauses + tally .unended + 1 ⌝ }
-    ensures { λ t. ⌜ ((done : List Rule) (r : Rule) (before : List ℤ) → Tallied (plan .clauses) (plan .literals) done r before (now (table .entry)) tally → begun r ≡ true → Tallied (plan .clauses) (plan .literals) (done ++ (r ∷ [])) nothing before (now (table .exit)) t) ⌝ }
+// Where the first clause that is too much starts, with the clause that the word at `at` ends.
+fn past_with(tally: Tally, at: usize) -> usize
+    ensures { λ w. ⌜ ((a b : ℕ) (done : List Rule) (r : Rule) (before after : List ℤ) → Tallied a b done r before after tally → w ≡ cond (ltb (tally .fitting) (tally .clauses)) (tally .past) (firstWord r at)) ⌝ }
 {
-    keep(
-        table,
-        tally.literals + tally.clauses + tally.unended,
-        false,
-        0,
-    );
-    let limit = limit_with(tally, plan);
+    if tally.fitting < tally.clauses {
+        return tally.past;
+    }
+    first_word(tally, at)
+}
+
+// The clause is ended by the word at `at`, and its 0 stands in the table.
+fn with_end(tally: Tally, plan: Plan, at: usize) -> Tally
+    requires { ⌜ used tally + 1 < 18446744073709551616 ⌝ }
+    requires { ⌜ (plan .clauses ≤ maxClauses) × (plan .literals ≤ maxLiterals) ⌝ }
+    ensures { λ t. ⌜ used t ≡ used tally + 1 ⌝ }
+    ensures { λ t. ⌜ ((done : List Rule) (r : Rule) (before mid after : List ℤ) → Tallied (plan .clauses) (plan .literals) done r before mid tally → Laid (pos 0 ∷ []) (used tally) mid after (used tally + 1) → Tallied (plan .clauses) (plan .literals) (done ++ (endedAt r at ∷ [])) nothing before after t) ⌝ }
+{
+    let fitting = fitting_with(tally, plan);
+    let past = past_with(tally, at);
     Tally {
         clauses: tally.clauses + 1,
         literals: tally.literals + tally.unended,
-        limit: limit,
+        fitting: fitting,
+        past: past,
         start: at,
         unended: 0,
     }
@@ -147,7 +140,7 @@ fn turn_by(
     plan: Plan,
     table: &mut [i16],
 ) -> Turn
-    requires { ⌜ tally .literals + tally .clauses + tally .unended + 1 < 18446744073709551616 ⌝ }
+    requires { ⌜ used tally + 1 < 18446744073709551616 ⌝ }
     requires { ⌜ (plan .clauses ≤ maxClauses) × (plan .literals ≤ maxLiterals) ⌝ }
     requires { ⌜ (0 < length (now table) → variables ≤ maxVariables) ⌝ }
     ensures { λ t. ⌜ OneMore tally t ⌝ }
@@ -159,13 +152,12 @@ fn turn_by(
             if value > variables {
                 return Turn::Wrong;
             }
+            let place = tally.literals + tally.clauses + tally.unended;
+            keep(table, place, negative, value);
             if value > 0 {
-                return Turn::Goes(with_literal(tally, negative, value, at, table));
+                return Turn::Goes(with_literal(tally, at));
             }
-            if tally.unended == 0 {
-                return Turn::Wrong;
-            }
-            Turn::Goes(with_end(tally, plan, at, table))
+            Turn::Goes(with_end(tally, plan, at))
         }
     }
 }
@@ -180,7 +172,8 @@ pub fn scan(text: &[u8], head: Head, plan: Plan, table: &mut [i16]) -> Scanned
     let mut tally = Tally {
         clauses: 0,
         literals: 0,
-        limit: Limit::Within,
+        fitting: 0,
+        past: 0,
         start: 0,
         unended: 0,
     };

@@ -124,37 +124,7 @@ read-flat top (C ∷ Cs) h = clause-at C (flat Cs) (λ l m e. not-zero l (all-in
     not-zero : (l : ℤ) → LiteralFits top l → l ≡ pos 0 → ⊥
     not-zero l f e = omega (arith, f .low, ap natAbs e)
 
--- no clause is empty
-abbrev Filled : List ℤ → Type 0
-Filled C = 1 ≤ length C
-
-module _ (n : ℕ) (es : List Edge) where
-  level-filled : (base i : ℕ) → All Filled (levelClauses n es base i)
-  unfolding levelClauses edgeClauses nodeClauses into
-  level-filled base i =
-      all-append Filled (each (length es) (edgeClauses n es base i)) _
-      (all-each Filled (length es) _ (λ k lk. (omega arith, (omega arith, (omega arith, tt)))))
-      (all-each Filled n _ (λ w lw. (omega arith, (omega arith, all-each Filled (length es) _ (λ k lk. all-if Filled (eqb w (edge es k .to)) _ (omega arith, tt))))))
-
-  block-filled : (base L s t a : ℕ) → All Filled (block n es base L s t a)
-  unfolding block startClauses endClauses
-  block-filled base L s t a =
-      all-append Filled (startClauses n es base s) _ (all-each Filled n _ (λ w lw. (omega arith, tt)))
-      (all-append Filled (each L (levelClauses n es base)) _ (all-each Filled L _ (λ i l. level-filled base i)) (omega arith, (omega arith, tt)))
-
-  blocks-filled : (base : ℕ) (As : List Atom) → All Filled (blocks n es base As)
-  unfolding blocks atomBlock
-  blocks-filled base [] = tt
-  blocks-filled base (A ∷ As) =
-      all-append Filled (atomBlock n es base A) _ (block-filled base (levels n A) (A .from) (A .to) (A .variable)) (blocks-filled (after n es base A) As)
-
 module _ (φ : PlanFile) (r : Ranged φ) where
-  pub written-filled : (C : List ℤ) → List·Memᴰ C (written φ) → 1 ≤ length C
-  unfolding written
-  written-filled C m =
-      all-in Filled (written φ) C m
-      (all-append Filled (φ .clauses) _ (in-all Filled (φ .clauses) (r .clause)) (blocks-filled (φ .nodes) (φ .edges) (φ .variables) (φ .atoms)))
-
   pub edge-ends : (k : ℕ) → k < length (φ .edges) → EndsFit (φ .nodes) (φ .variables) (edge (φ .edges) k .from) (edge (φ .edges) k .to) (edge (φ .edges) k .variable)
   edge-ends k l = r .edge (edge (φ .edges) k) (mem-at (φ .edges) _ k l)
 

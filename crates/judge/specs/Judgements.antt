@@ -7,7 +7,6 @@ use Prim.Native.Nat.{ℕ, _≤_, _<_}
 use lib.IntN.{ℤ}
 use lib.Dec.{T}
 use Rattle.plan.specs.Meaning.{Edge, Atom, costOf, IsTrue, on, trueIn, under}
-use Rattle.plan.specs.Ranged.{LiteralFits}
 use Rattle.plan.specs.Judging.{FirstWithout, plan, no-true, wrong}
 use Rattle.plan.specs.Judging as judging
 use Rattle.walk.specs.Hopping.{DistanceTable}
@@ -34,9 +33,6 @@ RightIn es a A = T (trueIn a (on (A .variable))) ↔ IsTrue es (under (trueIn a)
 -- The same, told from the distances from the atom's source.
 abbrev pub RightBy : List ℤ → Atom → List ℕ → Bool → Type 0
 RightBy a A d r = (es : List Edge) → DistanceTable (costOf (A .kind)) es (under (trueIn a)) (A .from) d → T r ↔ RightIn es a A
-
-abbrev pub LiteralsFit : ℕ → List ℤ → Type 0
-LiteralsFit variables C = (l : ℤ) → List·Memᴰ l C → LiteralFits variables l
 
 -- Atoms between nodes below 64, over so many variables.
 abbrev pub AtomsFit : ℕ → List Atom → Type 0

@@ -9,13 +9,13 @@ ghost use Prim.Native.Nat.{_*_, _<_, _≤_};
 ghost use lib.Dec.{T};
 ghost use lib.ListN.{length};
 ghost use Rattle.plan.specs.Meaning.{Full, HasTrue};
-ghost use Rattle.plan.specs.Ranged.{maxVariables};
+ghost use Rattle.plan.specs.Ranged.{maxVariables, LiteralsFit};
 ghost use Rattle.plan.specs.Search.{Assigned};
 ghost use Rattle.plan.specs.Judging.{Judged};
 ghost use Rattle.plan.specs.Tables.{edgesOf, atomsOf, atomOf, clausesOf, planOf, Lent};
 ghost use Rattle.plan.specs.ClauseTable.{Table};
 ghost use Rattle.walk.specs.Hopping.{Inside, Placed, Walked};
-ghost use Rattle.judge.specs.Judgements.{judgementOf, FirstIs, RightIn, RightBy, LiteralsFit, AtomsFit};
+ghost use Rattle.judge.specs.Judgements.{judgementOf, FirstIs, RightIn, RightBy, AtomsFit};
 
 // What an assignment is: a plan, or the number of the first clause without a true literal, or of the first atom whose variable is wrong.
 pub enum Judgement {

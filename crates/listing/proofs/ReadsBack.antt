@@ -8,12 +8,12 @@ use native.Mathlib.Omega.{arith}
 use lib.IntN.{ℤ}
 use lib.ListN.{length}
 use Rattle.plan.specs.Meaning.{Edge, Atom, PlanFile}
-use Rattle.plan.specs.Ranged.{LiteralFits, Ranged}
+use Rattle.plan.specs.Ranged.{LiteralFits, InRange, Ranged}
 use Rattle.plan.specs.Written.{flat, atomBlock, after, blocks, written, lastVariable}
-use Rattle.encoding.proofs.Literals.{All, all-in, written-fits, written-filled}
+use Rattle.encoding.proofs.Literals.{All, all-in, written-fits}
 use Rattle.encoding.proofs.Sizes.{small}
 use Rattle.dimacs.specs.Words.{between, last, words}
-use Rattle.dimacs.specs.Reading.{Rule, Text, good, nothing, clauses, whole, readText, literalsOf, InRange}
+use Rattle.dimacs.specs.Reading.{Rule, Text, good, nothing, clauses, whole, readText, literalsOf}
 use Rattle.dimacs.specs.Printing.{entries, headLine, atomLine}
 use Rattle.dimacs.proofs.ReadWords.{atom-line-reads}
 use Rattle.dimacs.proofs.ReadBack.{clauses-read, head-reads, behind-reads}
@@ -26,10 +26,10 @@ literals-append (r ∷ rs) ss = ap (λ Cs. r .literals ∷ Cs) (literals-append 
 
 -- a part of clauses in range
 first-in : {v : ℕ} (Bs Cs : List (List ℤ)) → InRange v (Bs ++ Cs) → InRange v Bs
-first-in Bs Cs h = record { clause = λ C m. h .clause C (Memᴰ·append-left Cs m); literal = λ C m. h .literal C (Memᴰ·append-left Cs m) }
+first-in Bs Cs h C m = h C (Memᴰ·append-left Cs m)
 
 second-in : {v : ℕ} (Bs Cs : List (List ℤ)) → InRange v (Bs ++ Cs) → InRange v Cs
-second-in Bs Cs h = record { clause = λ C m. h .clause C (Memᴰ·append-right Bs m); literal = λ C m. h .literal C (Memᴰ·append-right Bs m) }
+second-in Bs Cs h C m = h C (Memᴰ·append-right Bs m)
 
 -- what is read is a good text with these clauses behind those that are done
 pub record Reads (t : Text) (p v c : ℕ) (done : List Rule) (Cs : List (List ℤ)) : Type 0 where
@@ -58,10 +58,7 @@ module _ (end p v c : ℕ) (few : v ≤ 2147483647) (n : ℕ) (es : List Edge) w
 
 module _ (φ : PlanFile) (r : Ranged φ) where
   written-in-range : InRange (lastVariable φ) (written φ)
-  written-in-range = record {
-    clause = written-filled φ r;
-    literal = λ C m l k. all-in (LiteralFits (lastVariable φ)) C l k (all-in (All (LiteralFits (lastVariable φ))) (written φ) C m (written-fits φ r));
-  }
+  written-in-range C m l k = all-in (LiteralFits (lastVariable φ)) C l k (all-in (All (LiteralFits (lastVariable φ))) (written φ) C m (written-fits φ r))
 
   pub text-reads : Reads (readText (text φ)) 0 (lastVariable φ) (length (written φ)) [] (written φ)
   unfolding readText text frontText written literalsOf

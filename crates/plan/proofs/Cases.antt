@@ -57,7 +57,7 @@ abbrev atomFits? : PlanFile → Atom → Bool
 atomFits? φ A = ends? (φ .nodes) (φ .variables) (A .from) (A .to) (A .variable) && (bound? (A .kind) (A .bound) && allOf (λ e. not (eqb (e .variable) (A .variable))) (φ .edges))
 
 abbrev clauseFits? : PlanFile → List ℤ → Bool
-clauseFits? φ C = leb 1 (length C) && allOf (λ l. between 1 (natAbs l) (φ .variables)) C
+clauseFits? φ C = allOf (λ l. between 1 (natAbs l) (φ .variables)) C
 
 abbrev counts? : PlanFile → Bool
 counts? φ =
@@ -93,9 +93,8 @@ ranged φ t =
       edge = λ e m. ends-fit (φ .nodes) (φ .variables) (e .from) (e .to) (e .variable) (all-each (edgeFits? φ) (φ .edges) es e m);
       atom = λ A m. ends-fit (φ .nodes) (φ .variables) (A .from) (A .to) (A .variable) (and-left (ends? (φ .nodes) (φ .variables) (A .from) (A .to) (A .variable)) _ (bs A m));
       bound = λ A m. bound-is (A .kind) (A .bound) (and-left (bound? (A .kind) (A .bound)) _ (and-right (ends? (φ .nodes) (φ .variables) (A .from) (A .to) (A .variable)) _ (bs A m)));
-      clause = λ C m. leb→le 1 (length C) (and-left (leb 1 (length C)) _ (cs C m));
       literal = λ C m l k.
-          let h = between-is 1 (natAbs l) (φ .variables) (all-each (λ l. between 1 (natAbs l) (φ .variables)) C (and-right (leb 1 (length C)) _ (cs C m)) l k) in
+          let h = between-is 1 (natAbs l) (φ .variables) (all-each (λ l. between 1 (natAbs l) (φ .variables)) C (cs C m) l k) in
           record { low = h .0; high = h .1 };
       apart = λ e m A k q.
           let h = all-each (λ e. not (eqb (e .variable) (A .variable))) (φ .edges) (and-right (bound? (A .kind) (A .bound)) _ (and-right (ends? (φ .nodes) (φ .variables) (A .from) (A .to) (A .variable)) _ (bs A k))) e m in
@@ -289,6 +288,16 @@ sample = record {
   clauses = (pos 5 ∷ []) ∷ (negsuc 3 ∷ []) ∷ [];
 }
 
+-- the sample with a clause that has no literals between its two
+never : PlanFile
+never = record {
+  nodes = 3;
+  variables = 5;
+  edges = sample .edges;
+  atoms = sample .atoms;
+  clauses = (pos 5 ∷ []) ∷ [] ∷ (negsuc 3 ∷ []) ∷ [];
+}
+
 y : ℤ
 y = pos 1
 
@@ -298,7 +307,7 @@ n = negsuc 0
 o : ℤ
 o = pos 0
 
--- P1 to P10 in order (P4 has two lines), then the sample's plan with its count B
+-- P1 to P10 in order (P4 has two lines), then the sample's plan with its count B, then what the empty clause makes of it
 pub table : List Case
 table =
     is-true lone (o ∷ []) (reaches 0 0 1)
@@ -313,8 +322,11 @@ table =
     ∷ explains sample (y ∷ y ∷ o ∷ o ∷ o ∷ []) (reaches 0 2 5) (holds (pos 5 ∷ negsuc 0 ∷ negsuc 1 ∷ []))
     ∷ explains sample (o ∷ o ∷ n ∷ o ∷ o ∷ []) (within 1 0 2 4) (fails (negsuc 3 ∷ pos 3 ∷ []))
     ∷ finds sample (o ∷ o ∷ o ∷ o ∷ o ∷ []) (found (y ∷ y ∷ n ∷ n ∷ y ∷ [])) 7
+    ∷ judges never (y ∷ y ∷ n ∷ n ∷ y ∷ []) (no-true 2)
+    ∷ closes never (o ∷ o ∷ o ∷ o ∷ o ∷ []) nothing
+    ∷ finds never (o ∷ o ∷ o ∷ o ∷ o ∷ []) nothing 0
     ∷ []
 
 pub shown : (c : Case) → List·Memᴰ c table → Says c
-unfolding table lone row y n o literals next reached isTrue? levels judge close search reason trueIn value add
+unfolding table lone row never y n o literals next reached isTrue? levels judge close search reason trueIn value add
 shown c m = passed c (all-each passes table tt c m)

@@ -10,7 +10,7 @@ use native.Mathlib.Omega.{arith}
 use lib.ListN.{length, getD, drop, take-append-drop, length-append, length-drop, drop-of-length-le}
 use lib.Seq.{drop-drop, drop-cons, getD-take, getD-drop, getD-append-add, length-take-le}
 use lib.IntN.{ℤ, pos, negsuc, ℤ-discrete, natAbs}
-use Rattle.plan.specs.Ranged.{LiteralFits, literals}
+use Rattle.plan.specs.Ranged.{LiteralFits, InRange, literals}
 use Rattle.plan.specs.Written.{flat}
 use Rattle.plan.specs.Tables.{inFront, clausesOf, Lent}
 use Rattle.plan.specs.ClauseTable.{EndsAt, Ended, Table, End, BeginsAt, Begin, part, Stands, Around}
@@ -69,7 +69,7 @@ flat-literal (C ∷ Cs) l m n =
     (λ i. ⊎-elim (λ e. absurd (n e)) (λ j. let q = flat-literal Cs l j n in (q .0, List·Memᴰ·tail (q .1), q .2)) (List·Memᴰ·cases-cons i)) (List·Memᴰ·append-cases C m)
 
 -- clauses whose literals fit
-module _ {v : ℕ} (Cs : List (List ℤ)) (fit : (C : List ℤ) → List·Memᴰ C Cs → (l : ℤ) → List·Memᴰ l C → LiteralFits v l) where
+module _ {v : ℕ} (Cs : List (List ℤ)) (fit : InRange v Cs) where
   pub flat-table : Table v (flat Cs)
   flat-table = record { ended = flat-ended Cs; fits = fits }
     where

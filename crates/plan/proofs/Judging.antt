@@ -14,7 +14,7 @@ use Rattle.plan.proofs.Bools.{anyOf, any-some, some-any}
 use Rattle.plan.proofs.Levels.{isTrue?, true-iff}
 
 module _ {A : Type 0} (P : A → Type 0) where
-  first-unique : {xs : List A} {m n : ℕ} → FirstWithout P xs m → FirstWithout P xs n → m ≡ n
+  pub first-unique : {xs : List A} {m n : ℕ} → FirstWithout P xs m → FirstWithout P xs n → m ≡ n
   first-unique (here f) (here g) = refl
   first-unique (here f) (later p r) = absurd (f p)
   first-unique (later p r) (here f) = absurd (f p)

@@ -8,6 +8,7 @@ pub mod Search
 pub mod Compute
 pub mod Exists
 pub mod Judging
+pub mod EmptyClause
 pub mod Budget
 pub mod Reason
 pub mod Explain

@@ -51,6 +51,13 @@ pub record LiteralFits (variables : ℕ) (l : ℤ) : Type 0 where
   pub low : 1 ≤ natAbs l
   pub high : natAbs l ≤ variables
 
+-- A clause, and clauses, over so many variables: every literal is one of theirs. A clause may have none: "The empty clause is legal." (02, C-12)
+abbrev pub LiteralsFit : ℕ → List ℤ → Type 0
+LiteralsFit variables C = (l : ℤ) → List·Memᴰ l C → LiteralFits variables l
+
+abbrev pub InRange : ℕ → List (List ℤ) → Type 0
+InRange variables Cs = (C : List ℤ) → List·Memᴰ C Cs → LiteralsFit variables C
+
 -- "Kind 1 is 'reaches', bound 0. Kind 2 is 'within', bound 0 to 255."
 abbrev pub BoundFits : Kind → ℕ → Type 0
 BoundFits Reaches d = d ≡ 0
@@ -68,8 +75,6 @@ pub record Ranged (φ : PlanFile) : Type 0 where
   pub edge : (e : Edge) → List·Memᴰ e (φ .edges) → EndsFit (φ .nodes) (φ .variables) (e .from) (e .to) (e .variable)
   pub atom : (A : Atom) → List·Memᴰ A (φ .atoms) → EndsFit (φ .nodes) (φ .variables) (A .from) (A .to) (A .variable)
   pub bound : (A : Atom) → List·Memᴰ A (φ .atoms) → BoundFits (A .kind) (A .bound)
-  -- "An empty clause is malformed."
-  pub clause : (C : List ℤ) → List·Memᴰ C (φ .clauses) → 1 ≤ length C
-  pub literal : (C : List ℤ) → List·Memᴰ C (φ .clauses) → (l : ℤ) → List·Memᴰ l C → LiteralFits (φ .variables) l
+  pub literal : InRange (φ .variables) (φ .clauses)
   -- "A variable may not serve an edge and an atom."
   pub apart : (e : Edge) → List·Memᴰ e (φ .edges) → (A : Atom) → List·Memᴰ A (φ .atoms) → e .variable ≡ A .variable → ⊥

@@ -32,14 +32,17 @@ wrote-clear φ before after v c n h = go (leb (length (flat (written φ))) (leng
     go false k = let e = k .0 .is in let z : _≡_ {A = ℕ} 0 1 = cc in absurd (omega arith)
 
 module _ (file : List ℕ) (φ : PlanFile) (reads : readPlan file ≡ accepted φ) (before after : List ℤ) (v c n : ℕ) (h : WrittenIs file before after (Written v c n)) where
-  out : WrittenOut φ before after v c n
+  pub out : WrittenOut φ before after v c n
   out = wrote-clear φ before after v c n (record { case = met (checked file (writeChecks before) reads) h })
 
-  -- reading the front of the buffer back at the zeros gives the clauses
+  -- the list stands in the front of the buffer
+  pub list-stands : take n after ≡ flat (written φ)
+  list-stands =
+      ap (λ (k : ℕ). take k after) (out .length-is) ∙ ap (take (length (flat (written φ)))) (out .wrote) ∙ take-at (flat (written φ)) (drop (length (flat (written φ))) before) _ refl
+
+  -- read back at the zeros it gives the clauses
   pub reads-back : clausesOf (take n after) ≡ written φ
-  reads-back =
-      ap clausesOf (ap (λ (k : ℕ). take k after) (out .length-is) ∙ ap (take (length (flat (written φ)))) (out .wrote) ∙ take-at (flat (written φ)) (drop (length (flat (written φ))) before) _ refl)
-      ∙ read-back φ (read-ranged file φ reads)
+  reads-back = ap clausesOf list-stands ∙ read-back φ (read-ranged file φ reads)
 
   -- "the written clauses have exactly one continuation for each plan and none for anything else"
   pub written-exactly-one : ExactlyOne φ (clausesOf (take n after)) v

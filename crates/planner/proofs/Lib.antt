@@ -6,4 +6,5 @@ pub mod Demand3
 pub mod Ruling
 pub mod Inserting
 pub mod Texts
+pub mod EmptyClause
 pub mod Main

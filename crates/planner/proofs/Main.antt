@@ -2,35 +2,43 @@
 -- A public call's own statement is the `ensures` of its function in src/lib.rt, in the words of specs/. "01" is document 01.
 -- Assumes nothing.
 use mathlib.Core.Path.{_≡_}
+use mathlib.Core.Bool.{true}
 use mathlib.Core.Logic.{_⊎_}
-use mathlib.Core.List.{List, [], _++_, List·Memᴰ}
-use Prim.Native.Nat.{ℕ, suc, _+_, _-_, _*_, _^_, _≤_, _<_}
-use lib.IntN.{ℤ}
+use mathlib.Core.List.{List, [], _∷_, _++_, List·Memᴰ}
+use mathlib.Core.Option.{some}
+use Prim.Native.Nat.{ℕ, suc, _+_, _-_, _*_, _/_, _^_, _≤_, _<_}
+use lib.IntN.{ℤ, pos}
 use lib.ListN.{length, take}
 use Rattle.plan.specs.Meaning.{PlanFile, Atom, Full, HasTrue, IsRight, IsPlan}
-use Rattle.plan.specs.Ranged.{Ranged}
+use Rattle.plan.specs.Ranged.{maxClauses, InRange, Ranged}
 use Rattle.plan.specs.Reason.{holds, fails, ReasonIs}
 use Rattle.plan.specs.Search.{opens, Closes, Outcome, Tree, Before}
 use Rattle.plan.specs.Tables.{clausesOf}
-use Rattle.plan.specs.Written.{each, flat, written, lastVariable, ExactlyOne}
+use Rattle.plan.specs.Written.{each, flat, blocks, written, lastVariable, Satisfies, ExactlyOne}
 use Rattle.plan.specs.declared.Refusal.{Refusal}
 use Rattle.plan.proofs.Cases as cases
 use Rattle.plan.proofs.Reason as reasons
 use Rattle.encoding.specs.Counts.{Counted}
 use Rattle.encoding.proofs.Sizes as sizes
 use Rattle.encoding.proofs.Sample as sample
-use Rattle.reader.specs.Format.{refused, accepted, withClauses, readPlan}
+use Rattle.reader.specs.Format.{refuse, next, refused, accepted, tagAt, lenAt, fits, addClause, withClauses, stepAt, readPlan}
 use Rattle.reader.specs.declared.ReadAnswer.{ReadAnswer}
 use Rattle.reader.proofs.Accepts as accepts
+use Rattle.reader.proofs.EmptyClause as empty-records
 use Rattle.reader.proofs.Sample as files
-use Rattle.dimacs.specs.Reading.{Rule, good, rules, readText, literalsOf, InRange}
-use Rattle.dimacs.specs.Records.{inserted}
+use Rattle.dimacs.specs.Words.{lineEnd, Word}
+use Rattle.dimacs.specs.Numbers.{zeroDigit, numberIn}
+use Rattle.dimacs.specs.Reading.{Rule, good, nothing, goes, turn, rules, readText, literalsOf, firstOver}
+use Rattle.dimacs.specs.Records.{records, inserted}
 use Rattle.dimacs.specs.Printing.{entries, headLine}
+use Rattle.dimacs.proofs.LoneZero as zeros
 use Rattle.dimacs.proofs.ReadBack as back
-use Rattle.listing.specs.Text.{text, part}
+use Rattle.listing.specs.Text.{blockTexts, text, part}
 use Rattle.listing.proofs.Parts as parts
 use Rattle.planner.specs.declared.JudgeAnswer.{JudgeAnswer}
+use Rattle.planner.specs.declared.JudgeAnswer.the-variants.{Clause}
 use Rattle.planner.specs.declared.CloseAnswer.{CloseAnswer}
+use Rattle.planner.specs.declared.CloseAnswer.the-variants.{Clash}
 use Rattle.planner.specs.declared.ReasonAnswer.{ReasonAnswer}
 use Rattle.planner.specs.declared.SearchAnswer.{SearchAnswer}
 use Rattle.planner.specs.declared.SearchAnswer.the-variants.{Plan, Impossible, Undecided}
@@ -40,12 +48,12 @@ use Rattle.planner.specs.declared.WriteDimacsAnswer.{WriteDimacsAnswer}
 use Rattle.planner.specs.declared.WriteDimacsAnswer.the-variants.{Printed}
 use Rattle.planner.specs.declared.ReadDimacsAnswer.{ReadDimacsAnswer}
 use Rattle.planner.specs.declared.ReadDimacsAnswer.the-variants.{Rules}
-use Rattle.planner.specs.Refusing.{refusal, Refuses, KeepingBy}
+use Rattle.planner.specs.Refusing.{refusal, clear, Refuses, KeepingBy}
 use Rattle.planner.specs.Read.{ReadIs}
-use Rattle.planner.specs.Judge.{JudgeIs}
-use Rattle.planner.specs.Close.{ClosedIs}
+use Rattle.planner.specs.Judge.{judgeChecks, JudgeIs}
+use Rattle.planner.specs.Close.{closeChecks, ClosedIs}
 use Rattle.planner.specs.Reason.{ReasonedIs}
-use Rattle.planner.specs.Search.{allOpen, SearchedIs}
+use Rattle.planner.specs.Search.{allOpen, searchChecks, SearchedIs}
 use Rattle.planner.specs.WriteClauses.{WrittenIs}
 use Rattle.planner.specs.WriteDimacs.{PrintedIs}
 use Rattle.planner.specs.ReadDimacs.{rulesFor, RulesReadIs}
@@ -53,6 +61,7 @@ use Rattle.planner.proofs.Unique as one
 use Rattle.planner.proofs.Demand2 as demand-2
 use Rattle.planner.proofs.Demand3 as demand-3
 use Rattle.planner.proofs.Texts as texts
+use Rattle.planner.proofs.EmptyClause as empties
 
 -- Demand 1: every call ends, stays inside the lent buffers, and answers or refuses with 01's number; a refusal changes no buffer; no call has
 -- a `requires`. That is the functions' own proofs. "Every buffer then keeps its bytes": where a call meets a refusal, its statement says this.
@@ -173,6 +182,65 @@ parts-whole = parts.parts-whole
 module _ (file : List ℕ) (φ : PlanFile) (reads : readPlan file ≡ accepted φ) (lines before after : List ℕ) (clauses literals : ℕ) (h : RulesReadIs file lines before after (Rules clauses literals)) where
   pub rules-accepted : (rs : List Rule) × (rulesFor φ lines ≡ rules rs) × (readPlan (inserted file (take (3 * clauses + 2 * literals) after)) ≡ accepted (withClauses φ (literalsOf rs)))
   rules-accepted = texts.rules-accepted file φ reads lines before after clauses literals h
+
+-- 02, C-12: "The empty clause is legal." A clause record of length 0 is taken where there is room for one clause more, else it is 7 like any other; "odd lengths stay".
+module _ (file : List ℕ) (at : ℕ) (p : PlanFile) (inside : fits file at ≡ true) (tag : tagAt file at ≡ 4) where
+  pub empty-clause-taken : lenAt file at ≡ 0 → Ranged p → length (p .clauses) < maxClauses → stepAt file at p ≡ next (at + 3) (addClause p [])
+  empty-clause-taken = empty-records.empty-taken file at p inside tag
+
+  pub empty-clause-over : lenAt file at ≡ 0 → maxClauses ≤ length (p .clauses) → stepAt file at p ≡ refuse 7 at
+  empty-clause-over = empty-records.empty-over file at p inside tag
+
+  pub odd-length-refused : (lenAt file at / 2 * 2 ≡ lenAt file at → ⊥) → stepAt file at p ≡ refuse 5 at
+  odd-length-refused = empty-records.odd-refused file at p inside tag
+
+-- In a text it is a lone 0, and where it is one clause too many 7 is at that 0.
+pub lone-zero-taken : (variables : ℕ) (done : List Rule) (w : Word) → numberIn (w .bytes) ≡ some (pos 0)
+    → turn variables done nothing w ≡ goes (done ++ (record { at = w .at; literals = [] } ∷ [])) nothing
+lone-zero-taken = zeros.zero-taken
+
+pub lone-zero-over : (literals at : ℕ) (rest : List Rule) → firstOver maxClauses literals (record { at = at; literals = [] } ∷ rest) ≡ some at
+lone-zero-over = zeros.zero-over
+
+-- A file with an empty clause behind the clauses Cs and before the clauses Ds, where the call refuses nothing.
+module _ (φ : PlanFile) (Cs Ds : List (List ℤ)) (is : φ .clauses ≡ Cs ++ ([] ∷ Ds)) (file : List ℕ) (reads : readPlan file ≡ accepted φ) where
+  -- "Closing then clashes at once", whatever is given
+  pub empty-clause-clashes : (given before after : List ℤ) (r : CloseAnswer) → closeChecks given before φ ≡ clear φ → ClosedIs file given before after r → (r ≡ Clash) × (after ≡ before)
+  empty-clause-clashes = empties.close-clashes φ Cs Ds is file reads
+
+  -- "the search says impossible with 0 branchings", whatever the budget
+  pub empty-clause-impossible : (budget : ℕ) (before after : List ℤ) (r : SearchAnswer) → searchChecks before φ ≡ clear φ → SearchedIs file budget before after r
+      → (r ≡ Impossible 0) × (after ≡ before)
+  empty-clause-impossible = empties.search-impossible φ Cs Ds is file reads
+
+  -- judging names it as the first clause without a true literal, where those before it have one
+  pub empty-clause-judged : (assignment : List ℤ) (r : JudgeAnswer) → judgeChecks assignment φ ≡ clear φ → ((C : List ℤ) → List·Memᴰ C Cs → HasTrue assignment C) → JudgeIs file assignment r
+      → r ≡ Clause (suc (length Cs))
+  empty-clause-judged = empties.judge-names φ Cs Ds is file reads
+
+  -- what is written behind it
+  abbrev behind : List (List ℤ)
+  behind = Ds ++ blocks (φ .nodes) (φ .edges) (φ .variables) (φ .atoms)
+
+  -- "and the clause list holds a lone 0": among the numbers, where it counts as a clause and as one number; and as a line of the text
+  pub empty-clause-listed : (before after : List ℤ) (variables clauses numbers : ℕ) → WrittenIs file before after (Written variables clauses numbers)
+      → (take numbers after ≡ flat Cs ++ (pos 0 ∷ flat behind)) × (clauses ≡ length Cs + 1 + length behind) × (numbers ≡ length (flat Cs) + 1 + length (flat behind))
+  empty-clause-listed = empties.list-holds φ Cs Ds is file reads
+
+  pub empty-clause-printed : (before after : List ℕ) (bytes : ℕ) → PrintedIs file before after (Printed bytes)
+      → take bytes after ≡ headLine (lastVariable φ) (length (written φ))
+      ++ (entries (flat Cs) ++ (zeroDigit ∷ lineEnd ∷ (entries (flat Ds) ++ blockTexts (φ .nodes) (φ .edges) 1 (φ .variables) (φ .atoms))))
+  empty-clause-printed = empties.text-holds φ Cs Ds is file reads
+
+  -- By source document 003 no assignment satisfies it: nor the list.
+  pub empty-clause-unsatisfied : (a : List ℤ) → Satisfies a (written φ) → ⊥
+  empty-clause-unsatisfied = empties.list-unsatisfied φ Cs Ds is
+
+-- `read_dimacs` writes the record of length 0 for it. So the plan file with the records put in (`rules-accepted`) is one of those above.
+pub empty-clause-recorded : (file : List ℕ) (φ : PlanFile) → readPlan file ≡ accepted φ → (lines before after : List ℕ) (clauses literals : ℕ) → RulesReadIs file lines before after (Rules clauses literals)
+    → (rs : List Rule) (Cs Ds : List (List ℤ)) → rulesFor φ lines ≡ rules rs → literalsOf rs ≡ Cs ++ ([] ∷ Ds)
+    → take (3 * clauses + 2 * literals) after ≡ records Cs ++ (4 ∷ 0 ∷ 0 ∷ records Ds)
+empty-clause-recorded = empties.record-holds
 
 -- "P1 to P10 are one table, shown from the definitions by one argument"
 pub cases-shown : (c : cases.Case) → List·Memᴰ c cases.table → cases.Says c

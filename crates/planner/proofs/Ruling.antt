@@ -1,7 +1,7 @@
 -- From what reading the rules answers to what `read_dimacs` meets, and to what its records need.
 -- Assumes nothing.
 use mathlib.Core.Path.{_≡_, refl, sym, _∙_, ap, ap₂, subst}
-use mathlib.Core.List.{List, List·Memᴰ}
+use mathlib.Core.List.{List}
 use Prim.Native.Nat.{ℕ, _+_, _*_, _≤_, _<_}
 use native.Mathlib.Omega.{arith}
 use lib.IntN.{ℤ}
@@ -9,7 +9,7 @@ use lib.ListN.{length, take}
 use Rattle.plan.specs.ClauseTable.{Table}
 use Rattle.plan.specs.Front.{Room, Put}
 use Rattle.plan.specs.Meaning.{PlanFile}
-use Rattle.plan.specs.Ranged.{maxVariables, maxClauses, maxLiterals, literals, LiteralFits}
+use Rattle.plan.specs.Ranged.{maxVariables, maxClauses, maxLiterals, literals, InRange}
 use Rattle.plan.specs.Refusals.{numberOf, valueOf}
 use Rattle.plan.specs.Tables.{clausesOf, planOf, Lent}
 use Rattle.plan.specs.declared.Plan.{Plan}
@@ -64,8 +64,8 @@ module _ {p : Plan} {es bs : List ℕ} {cs : List ℤ} (lent : Lent p es bs cs) 
     ruled : Ruled (φ .variables) (length (φ .clauses)) (literals (φ .clauses)) (found .0)
     ruled = rules-ruled (φ .variables) (length (φ .clauses)) (literals (φ .clauses)) (lent .ranged .clauses) (lent .ranged .literals) lines read
 
-    fit : (C : List ℤ) → List·Memᴰ C Cs → (l : ℤ) → List·Memᴰ l C → LiteralFits maxVariables l
-    fit C m k n = let f = ruled .ranged .literal C m k n in record { low = f .low; high = omega (arith, f .high, lent .ranged .variables) }
+    fit : InRange maxVariables Cs
+    fit C m k n = let f = ruled .ranged C m k n in record { low = f .low; high = omega (arith, f .high, lent .ranged .variables) }
 
     pub few : (c ≤ maxClauses) × (l ≤ maxLiterals)
     few = (omega (arith, found .2 .clauses, ruled .few), omega (arith, found .2 .literals, ruled .short))

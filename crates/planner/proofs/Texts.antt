@@ -48,11 +48,11 @@ module _ (file : List ℕ) (φ : PlanFile) (reads : readPlan file ≡ accepted �
   out : TextWritten φ before after n
   out = printed-clear φ before after n (record { case = met (checked file (printChecks before) reads) h })
 
-  stands : take n after ≡ text φ
-  stands = ap (λ (k : ℕ). take k after) (out .count) ∙ ap (take (length (text φ))) (out .wrote) ∙ take-at (text φ) (drop (length (text φ)) before) _ refl
+  pub text-stands : take n after ≡ text φ
+  text-stands = ap (λ (k : ℕ). take k after) (out .count) ∙ ap (take (length (text φ))) (out .wrote) ∙ take-at (text φ) (drop (length (text φ)) before) _ refl
 
   back : Reads (readText (take n after)) 0 (lastVariable φ) (length (written φ)) [] (written φ)
-  back = subst (λ (t : List ℕ). Reads (readText t) 0 (lastVariable φ) (length (written φ)) [] (written φ)) (sym stands) (text-reads φ (read-ranged file φ reads))
+  back = subst (λ (t : List ℕ). Reads (readText t) 0 (lastVariable φ) (length (written φ)) [] (written φ)) (sym text-stands) (text-reads φ (read-ranged file φ reads))
 
   -- the text reads back as the written-out clauses, which have exactly one continuation for each plan
   pub text-reads-back : (rs : List Rule) × (readText (take n after) ≡ good 0 (lastVariable φ) (length (written φ)) rs) × (literalsOf rs ≡ written φ) × ExactlyOne φ (literalsOf rs) (lastVariable φ)
@@ -99,7 +99,7 @@ rules-reads file lines before after c l h = by (readPlan file) refl (h .case)
     by (accepted φ) e k = (φ, e)
 
 module _ (file : List ℕ) (φ : PlanFile) (reads : readPlan file ≡ accepted φ) (lines before after : List ℕ) (c l : ℕ) (h : RulesReadIs file lines before after (read.Rules c l)) where
-  given : Given φ lines before after c l
+  pub given : Given φ lines before after c l
   given = rules-clear φ lines before after c l (record { case = met (checked file (rulesChecks lines before) reads) h })
 
   -- the clauses of the text
@@ -112,23 +112,22 @@ module _ (file : List ℕ) (φ : PlanFile) (reads : readPlan file ≡ accepted �
   pub records-fit : 3 * c + 2 * l ≤ length before
   records-fit = omega (arith, needed, given .room)
 
-  stand : take (3 * c + 2 * l) after ≡ records ruled
-  stand = ap (λ (k : ℕ). take k after) needed ∙ ap (take (length (records ruled))) (given .written-out .wrote) ∙ take-at (records ruled) (drop (length (records ruled)) before) _ refl
+  pub records-stand : take (3 * c + 2 * l) after ≡ records ruled
+  records-stand = ap (λ (k : ℕ). take k after) needed ∙ ap (take (length (records ruled))) (given .written-out .wrote) ∙ take-at (records ruled) (drop (length (records ruled)) before) _ refl
 
   joins : Joins φ ruled
   joins =
       let r = read-ranged file φ reads in
       let q = rules-ruled (φ .variables) (length (φ .clauses)) (literals (φ .clauses)) (r .clauses) (r .literals) lines (given .written-out .read) in
       record {
-        clause = q .ranged .clause;
-        literal = q .ranged .literal;
+        literal = q .ranged;
         clauses = omega (arith, q .few, literals-of-length (given .written-out .of));
         literals = q .short;
       }
 
   -- the plan file with the records put in is accepted, and has the text's clauses behind its own
   pub rules-accepted : (rs : List Rule) × (rulesFor φ lines ≡ rules rs) × (readPlan (inserted file (take (3 * c + 2 * l) after)) ≡ accepted (withClauses φ (literalsOf rs)))
-  rules-accepted = (given .written-out .of, given .written-out .read, ap (λ (R : List ℕ). readPlan (inserted file R)) stand ∙ inserted-reads file reads joins)
+  rules-accepted = (given .written-out .of, given .written-out .read, ap (λ (R : List ℕ). readPlan (inserted file R)) records-stand ∙ inserted-reads file reads joins)
 
 -- what a program that joins the two needs: the end record's bytes are there, and the records are in the buffer
 pub joinable : (file lines before after : List ℕ) (c l : ℕ) → RulesReadIs file lines before after (read.Rules c l) → (3 ≤ length file) × (3 * c + 2 * l ≤ length before)

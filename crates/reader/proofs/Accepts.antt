@@ -5,7 +5,7 @@ use Rattle.plan.specs.Meaning.{Edge, Atom, PlanFile, numberOfKind, kindOf}
 use Rattle.plan.specs.declared.Kind.{Kind}
 use Rattle.plan.specs.declared.Kind.the-variants.{Reaches, Within}
 use Rattle.reader.specs.Format.{Step, refuse, next, done, Reading, refused, accepted, onward, word, lenAt, headOk, endsOk, boundOk, kindOk, atomOk, literalOk, literalsOk, serves, edgeUses, atomUses, edgeIn, kindIn, atomIn, clauseIn, addEdge, addAtom, addClause, emptyPlan, stepAt, headAt, records, readPlan}
-use Rattle.plan.specs.Ranged.{maxBound, literals, EndsFit, LiteralFits, BoundFits, Ranged}
+use Rattle.plan.specs.Ranged.{maxBound, literals, EndsFit, LiteralFits, LiteralsFit, BoundFits, Ranged}
 use Rattle.reader.proofs.Cases.{both, head-by, step-by, edge-by, atom-by, clause-by}
 use Rattle.plan.proofs.ClauseTable.{count-clause}
 use Rattle.reader.proofs.Rows.{length-snoc, literals-length}
@@ -31,7 +31,7 @@ literal-fits : (v : ℕ) (l : ℤ) → literalOk v l ≡ true → LiteralFits v 
 unfolding literalOk
 literal-fits v l h = let d = both (leb 1 (natAbs l)) (leb (natAbs l) v) h in record { low = leb-true 1 (natAbs l) (d .0); high = leb-true (natAbs l) v (d .1) }
 
-literals-fit : (v : ℕ) (c : List ℤ) → literalsOk v c ≡ true → (l : ℤ) → List·Memᴰ l c → LiteralFits v l
+literals-fit : (v : ℕ) (c : List ℤ) → literalsOk v c ≡ true → LiteralsFit v c
 unfolding literalsOk
 literals-fit v [] h l m = absurd (List·Memᴰ·not-nil m)
 literals-fit v (x ∷ c) h l m =
@@ -69,7 +69,6 @@ module _ (p : PlanFile) (r : Ranged p) where
     edge = snoc (λ (x : Edge). EndsFit (p .nodes) (p .variables) (x .from) (x .to) (x .variable)) (p .edges) e (r .edge) (ends-fit _ _ _ _ _ ok);
     atom = r .atom;
     bound = r .bound;
-    clause = r .clause;
     literal = r .literal;
     apart = snoc (λ (x : Edge). (a : Atom) → List·Memᴰ a (p .atoms) → x .variable ≡ a .variable → ⊥) (p .edges) e (r .apart)
         (λ a m q. unserved _ (p .atoms) (e .variable) free a m (sym q));
@@ -91,14 +90,13 @@ module _ (p : PlanFile) (r : Ranged p) where
         edge = r .edge;
         atom = snoc (λ (x : Atom). EndsFit (p .nodes) (p .variables) (x .from) (x .to) (x .variable)) (p .atoms) a (r .atom) (ends-fit _ _ _ _ _ (d .1));
         bound = snoc (λ (x : Atom). BoundFits (x .kind) (x .bound)) (p .atoms) a (r .bound) (rw is (kind-fits k (a .bound) (d .0)));
-        clause = r .clause;
         literal = r .literal;
         apart = λ e m. snoc (λ (x : Atom). e .variable ≡ x .variable → ⊥) (p .atoms) a (r .apart e m) (unserved _ (p .edges) (a .variable) free e m);
       }
 
-  with-clause : (c : List ℤ) → 1 ≤ length c → literalsOk (p .variables) c ≡ true → length (p .clauses) < 1024
+  with-clause : (c : List ℤ) → literalsOk (p .variables) c ≡ true → length (p .clauses) < 1024
       → literals (p .clauses) + length c ≤ 4096 → Ranged (addClause p c)
-  with-clause c one ok room most = record {
+  with-clause c ok room most = record {
     node = r .node;
     nodes = r .nodes;
     variable = r .variable;
@@ -110,8 +108,7 @@ module _ (p : PlanFile) (r : Ranged p) where
     edge = r .edge;
     atom = r .atom;
     bound = r .bound;
-    clause = snoc (λ (x : List ℤ). 1 ≤ length x) (p .clauses) c (r .clause) one;
-    literal = snoc (λ (x : List ℤ). (l : ℤ) → List·Memᴰ l x → LiteralFits (p .variables) l) (p .clauses) c (r .literal) (literals-fit (p .variables) c ok);
+    literal = snoc (LiteralsFit (p .variables)) (p .clauses) c (r .literal) (literals-fit (p .variables) c ok);
     apart = r .apart;
   }
 
@@ -132,7 +129,7 @@ step-good f at p r =
     (λ h. edge-by Good (λ n v. tt) f at p (λ l. with-edge p r (edgeIn f at)))
     (λ h. atom-by Good (λ n v. tt) f at p (λ l. with-atom p r (kindIn f at) (atomIn f at) refl))
     (λ h. clause-by Good (λ n v. tt) f at p (λ l ok room most.
-    with-clause p r (clauseIn f at) (subst (λ (k : ℕ). 1 ≤ k) (sym n) (l .0)) ok room (subst (λ (k : ℕ). literals (p .clauses) + k ≤ 4096) (sym n) most)))
+    with-clause p r (clauseIn f at) ok room (subst (λ (k : ℕ). literals (p .clauses) + k ≤ 4096) (sym n) most)))
     (λ e. r)
 
 on-good : (g : ℕ → PlanFile → Reading) → ((b : ℕ) (p : PlanFile) → Ranged p → Fine (g b p)) → (s : Step) → Good s → Fine (onward g s)
@@ -164,7 +161,6 @@ empty-ranged n v h =
       edge = λ e m. absurd (List·Memᴰ·not-nil m);
       atom = λ e m. absurd (List·Memᴰ·not-nil m);
       bound = λ e m. absurd (List·Memᴰ·not-nil m);
-      clause = λ e m. absurd (List·Memᴰ·not-nil m);
       literal = λ e m. absurd (List·Memᴰ·not-nil m);
       apart = λ e m. absurd (List·Memᴰ·not-nil m);
     }

@@ -9,9 +9,9 @@ use Rattle.reader.proofs.Steps.{fits-is}
 pub both : (a b : Bool) → (a && b) ≡ true → (a ≡ true) × (b ≡ true)
 both a b h = and-eq-true-iff a b .0 h
 
-clause-long : (n : ℕ) → clauseLen n ≡ true → (1 ≤ n / 2) × (n / 2 * 2 ≡ n)
+clause-long : (n : ℕ) → clauseLen n ≡ true → n / 2 * 2 ≡ n
 unfolding clauseLen
-clause-long n h = let d = both (leb 2 n) (eqb (n / 2 * 2) n) h in (omega (arith, leb-true 2 n (d .0)), eqb-true (n / 2 * 2) n (d .1))
+clause-long n h = eqb-true (n / 2 * 2) n h
 
 -- the end record stands at the offset, and nothing behind it
 pub record Ended (f : List ℕ) (at : ℕ) : Type 0 where
@@ -55,7 +55,7 @@ module _ (G : Step → Type 0) (no : (n v : ℕ) → G (refuse n v)) where
         in-order (eqb (lenAt f at) 9) (atomOk (p .nodes) (p .variables) (kindIn f at) (atomIn f at)) (ltb (length (p .atoms)) maxAtoms)
         (not (edgeUses (p .edges) (word f (at + 10)))) _ _ (λ l r m a. g (eqb-true (lenAt f at) 9 l) r (ltb-true _ _ m) (not-true _ a))
 
-    pub clause-by : ((1 ≤ lenAt f at / 2) × (lenAt f at / 2 * 2 ≡ lenAt f at) → literalsOk (p .variables) (clauseIn f at) ≡ true → length (p .clauses) < maxClauses
+    pub clause-by : (lenAt f at / 2 * 2 ≡ lenAt f at → literalsOk (p .variables) (clauseIn f at) ≡ true → length (p .clauses) < maxClauses
         → literals (p .clauses) + lenAt f at / 2 ≤ maxLiterals → G (next (after f at) (addClause p (clauseIn f at)))) → G (clauseAt f at p)
     unfolding clauseAt
     clause-by g =

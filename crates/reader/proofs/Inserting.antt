@@ -1,13 +1,13 @@
 -- A plan file with clause records put in before its end record is the same plan file with these clauses behind its own.
 -- Assumes nothing.
-use Rattle.reader.proofs.Kit.{_≡_, refl, sym, ap, _∙_, subst, true, List, [], _∷_, _++_, append-nil, List·Memᴰ, ℕ, _+_, _-_, _*_, _/_, _<_, _≤_, arith, lt-ltb, le-leb, eq-eqb, ℤ, natAbs, length, take, drop, getD, length-drop}
+use Rattle.reader.proofs.Kit.{_≡_, refl, sym, ap, _∙_, subst, true, List, [], _∷_, _++_, append-nil, ℕ, _+_, _-_, _*_, _/_, _<_, _≤_, arith, lt-ltb, le-leb, eq-eqb, ℤ, natAbs, length, take, drop, getD, length-drop}
 use mathlib.Core.Path.{ap₂}
 use mathlib.Core.List.{List·Memᴰ·head, List·Memᴰ·tail}
 use native.Mathlib.Numerals.{add-one}
 use lib.ListN.{take-append-drop, drop-of-length-le}
 use lib.Seq.{append-snoc, getD-drop, drop-cons}
 use Rattle.plan.specs.Meaning.{PlanFile}
-use Rattle.plan.specs.Ranged.{maxBytes, maxClauses, maxLiterals, literals, LiteralFits}
+use Rattle.plan.specs.Ranged.{maxBytes, maxClauses, maxLiterals, literals, LiteralsFit, InRange}
 use Rattle.reader.specs.Format.{next, accepted, word, tagAt, lenAt, after, literalOk, literalsOk, literalsIn, clauseLen, addClause, clauseAt, stepAt, readPlan, withClauses}
 use Rattle.plan.proofs.ClauseTable.{count-clause}
 use Rattle.reader.proofs.Rows.{length-snoc}
@@ -58,8 +58,7 @@ pub data Row (g : List ℕ) : ℕ → List (List ℤ) → ℕ → Type 0 where
 
 -- clauses that a plan file may have behind its own
 pub record Joins (p : PlanFile) (Cs : List (List ℤ)) : Type 0 where
-  pub clause : (C : List ℤ) → List·Memᴰ C Cs → 1 ≤ length C
-  pub literal : (C : List ℤ) → List·Memᴰ C Cs → (l : ℤ) → List·Memᴰ l C → LiteralFits (p .variables) l
+  pub literal : InRange (p .variables) Cs
   pub clauses : length (p .clauses) + length Cs ≤ maxClauses
   pub literals : literals (p .clauses) + literals Cs ≤ maxLiterals
 
@@ -67,7 +66,7 @@ pub record Joins (p : PlanFile) (Cs : List (List ℤ)) : Type 0 where
 abbrev having : PlanFile → List (List ℤ) → PlanFile
 having p Cs = record { nodes = p .nodes; variables = p .variables; edges = p .edges; atoms = p .atoms; clauses = Cs }
 
-fit-literals : (v : ℕ) (C : List ℤ) → ((l : ℤ) → List·Memᴰ l C → LiteralFits v l) → literalsOk v C ≡ true
+fit-literals : (v : ℕ) (C : List ℤ) → LiteralsFit v C → literalsOk v C ≡ true
 unfolding literalsOk literalOk
 fit-literals v [] h = refl
 fit-literals v (l ∷ C) h =
@@ -79,7 +78,6 @@ module _ {p : PlanFile} {C : List ℤ} {Cs : List (List ℤ)} (j : Joins p (C �
   joins-rest : Joins (addClause p C) Cs
   unfolding literals
   joins-rest = record {
-    clause = λ D m. j .clause D (List·Memᴰ·tail m);
     literal = λ D m. j .literal D (List·Memᴰ·tail m);
     clauses = omega (arith, j .clauses, length-snoc (p .clauses) C);
     literals = omega (arith, j .literals, count-clause (p .clauses) C);
@@ -88,7 +86,6 @@ module _ {p : PlanFile} {C : List ℤ} {Cs : List (List ℤ)} (j : Joins p (C �
   clause-step : {g : List ℕ} {at : ℕ} → ClauseStands g at C → stepAt g at p ≡ next (after g at) (addClause p C)
   unfolding stepAt clauseAt clauseLen literals
   clause-step {g} {at} s =
-      let one = j .clause C (List·Memᴰ·head refl) in
       let half : lenAt g at / 2 ≡ length C = omega (arith, s .long) in
       let ok = fit-literals (p .variables) C (j .literal C (List·Memᴰ·head refl)) in
       simp (
@@ -97,7 +94,6 @@ module _ {p : PlanFile} {C : List ℤ} {Cs : List (List ℤ)} (j : Joins p (C �
         half,
         s .value,
         ok,
-        le-leb 2 (lenAt g at) (omega (arith, s .long)),
         eq-eqb (length C * 2) (lenAt g at) (sym (s .long)),
         lt-ltb (length (p .clauses)) maxClauses (omega (arith, j .clauses)),
         le-leb (literals (p .clauses) + length C) maxLiterals (omega (arith, j .literals)),

@@ -11,4 +11,5 @@ pub mod Inserting
 pub mod Loop
 pub mod Lending
 pub mod Sample
+pub mod EmptyClause
 pub mod Cutting

@@ -32,7 +32,7 @@ moved f at p =
     (λ h. atom-by G (λ n v. tt) f at p (λ l r m a. record { ends = refl; inside = h; adds = omega (arith, length-snoc (p .atoms) (atomIn f at)) }))
     (λ h. clause-by G (λ n v. tt) f at p (λ l r m a.
     let n = literals-length f (at + 3) (lenAt f at / 2) in
-    record { ends = refl; inside = h; adds = omega (arith, l .1, n, length-snoc (p .clauses) (clauseIn f at), count-clause (p .clauses) (clauseIn f at)) }))
+    record { ends = refl; inside = h; adds = omega (arith, l, n, length-snoc (p .clauses) (clauseIn f at), count-clause (p .clauses) (clauseIn f at)) }))
     (λ e. (refl, e))
 
 pub passed : {f : List ℕ} {at b : ℕ} {p q : PlanFile} → stepAt f at p ≡ next b q → Passed f at p b q

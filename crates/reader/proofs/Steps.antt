@@ -1,6 +1,6 @@
 -- What each record leads to, told by the counts and the tables: the tests that the code makes are the definition's.
 -- Assumes nothing.
-use Rattle.reader.proofs.Kit.{_≡_, refl, sym, ap, _∙_, Bool, true, false, not, _&&_, and-eq-true-iff, List, [], _∷_, _++_, append-assoc, ℕ, _+_, _*_, _/_, _≤_, arith, leb-true, eq-eqb, ne-eqb, ltb, leb, eqb, ℤ, pos, length, take}
+use Rattle.reader.proofs.Kit.{_≡_, refl, sym, ap, _∙_, Bool, true, false, not, _&&_, and-eq-true-iff, List, [], _∷_, _++_, ℕ, _+_, _*_, _/_, _≤_, arith, leb-true, eq-eqb, ne-eqb, ltb, leb, eqb, ℤ, pos, length, take}
 use Rattle.plan.specs.Meaning.{PlanFile}
 use Rattle.plan.specs.Ranged.{maxEdges, maxAtoms, maxClauses, maxLiterals, literals}
 use Rattle.plan.specs.Written.{flat}
@@ -108,7 +108,7 @@ module _ (f : List ℕ) (at : ℕ) {p : PlanFile} {c : counted.Plan} {es bs : Li
   clause-tests = record { is = simp (← t .variables, ← t .clauses .count, ← t .literals) }
 
   pub clause-tables : {n : ℕ} {d : List ℤ} → n ≡ lenAt f at / 2
-      → take (c .literals + c .clauses + n + 1) d ≡ take (c .literals + c .clauses) cs ++ literalsIn f (at + 3) n ++ (pos 0 ∷ [])
+      → take (c .literals + c .clauses + n + 1) d ≡ take (c .literals + c .clauses) cs ++ (literalsIn f (at + 3) n ++ (pos 0 ∷ []))
       → Tables (addClause p (clauseIn f at)) (counting c (c .edges) (c .atoms) (c .clauses + 1) (c .literals + n)) es bs d
   clause-tables {n = n} {d = d} e h =
       let m : c .literals + n + (c .clauses + 1) ≡ c .literals + c .clauses + n + 1 = omega arith in
@@ -117,7 +117,7 @@ module _ (f : List ℕ) (at : ℕ) {p : PlanFile} {c : counted.Plan} {es bs : Li
         variables = t .variables;
         edges = t .edges;
         atoms = t .atoms;
-        clauses = one-more flat (λ C. C ++ (pos 0 ∷ [])) flat-clause (clauseIn f at) (t .clauses) (rw (m, ← e, ← append-assoc) h);
+        clauses = one-more flat (λ C. C ++ (pos 0 ∷ [])) flat-clause (clauseIn f at) (t .clauses) (rw (m, ← e) h);
         literals = count-clause (p .clauses) (clauseIn f at) ∙ simp (t .literals, literals-length, e);
       }
 

@@ -147,9 +147,9 @@ atomAt f at p =
     inOrder (eqb (lenAt f at) 9) (atomOk (p .nodes) (p .variables) (kindIn f at) (atomIn f at)) (ltb (length (p .atoms)) maxAtoms) (not (edgeUses (p .edges) (atomIn f at .variable))) at
     (next (after f at) (addAtom p (atomIn f at)))
 
--- "even, at least 2"; "An empty clause is malformed."
+-- "even", and 0 too: "5 no longer covers a clause of length 0 ..; odd lengths stay." (02, C-12)
 unfoldable pub clauseLen : ℕ → Bool
-clauseLen n = leb 2 n && eqb (n / 2 * 2) n
+clauseLen n = eqb (n / 2 * 2) n
 
 abbrev pub clauseIn : List ℕ → ℕ → List ℤ
 clauseIn f at = literalsIn f (at + 3) (lenAt f at / 2)

@@ -1,9 +1,9 @@
 // The fields of a file: the numbers, edges and atoms in its bytes, where a record ends, and the ranges of document 01.
 ghost use mathlib.Core.Path.{_≡_};
-ghost use Prim.Native.Nat.{_+_, _*_, _<_, _≤_};
+ghost use Prim.Native.Nat.{_+_, _<_, _≤_};
 ghost use lib.ListN.{length};
 ghost use Rattle.plan.specs.Tables.{edgeOf, atomOf};
-ghost use Rattle.reader.specs.Format.{word, twos, fits, headOk, endsOk, boundOk, kindOk, edgeOk, atomOk, literalOk, literalsOk, literalsIn, edgeIn, kindIn, atomIn};
+ghost use Rattle.reader.specs.Format.{word, twos, fits, headOk, endsOk, boundOk, kindOk, edgeOk, atomOk, literalOk, edgeIn, kindIn, atomIn};
 use plan::Atom;
 use plan::Edge;
 use plan::Kind;
@@ -143,7 +143,7 @@ pub fn atom_ok(counts: Plan, number: u16, atom: Atom) -> bool
 }
 
 // A literal is tested before it becomes a signed number, so that -32,768 needs no case of its own.
-fn literal_ok(variables: u16, x: u16) -> bool
+pub fn literal_ok(variables: u16, x: u16) -> bool
     ensures { λ r. ⌜ r ≡ literalOk variables (twos x) ⌝ }
 {
     if x < 32768 {
@@ -153,21 +153,4 @@ fn literal_ok(variables: u16, x: u16) -> bool
         return x <= variables;
     }
     65535 - x < variables
-}
-
-// Every one of `count` literals is in range.
-pub fn literals_ok(file: &[u8], from: usize, count: usize, variables: u16) -> bool
-    requires { ⌜ from + count * 2 ≤ length (now file) ⌝ }
-    ensures { λ r. ⌜ r ≡ literalsOk variables (literalsIn (now (file .entry)) from count) ⌝ }
-{
-    let mut at = from;
-    let mut left = count;
-    while left > 0 {
-        if !literal_ok(variables, word(file, at)) {
-            return false;
-        }
-        at += 2;
-        left -= 1;
-    }
-    true
 }

@@ -1,11 +1,14 @@
 // The records behind the head: each is tested, and goes into its table or is refused.
 ghost use mathlib.Core.Path.{_≡_};
+ghost use mathlib.Core.Bool.{true};
 ghost use mathlib.Core.List.{List, [], _∷_, _++_};
 ghost use Prim.Native.Nat.{ℕ, _+_, _*_, _<_, _≤_};
 ghost use lib.IntN.{ℤ, pos};
 ghost use lib.ListN.{length, take};
+ghost use Rattle.plan.specs.ClauseTable.{maxTable};
+ghost use Rattle.plan.specs.Front.{Laid};
 ghost use Rattle.plan.specs.Tables.{edgeOf, atomOf};
-ghost use Rattle.reader.specs.Format.{after, literalsIn, edgeAt, atomAt, clauseAt, endAt, stepAt};
+ghost use Rattle.reader.specs.Format.{after, literalsIn, literalsOk, edgeAt, atomAt, clauseAt, endAt, stepAt};
 ghost use Rattle.reader.specs.Filling.{Room, Ready, Takes, edgeRow, atomRow, lastIs};
 use crate::Step;
 use crate::fields::atom_in;
@@ -14,7 +17,7 @@ use crate::fields::edge_in;
 use crate::fields::edge_ok;
 use crate::fields::kind_in;
 use crate::fields::literal;
-use crate::fields::literals_ok;
+use crate::fields::literal_ok;
 use crate::fields::record_fits;
 use crate::fields::word;
 use plan::Atom;
@@ -49,21 +52,43 @@ fn put_atom(table: &mut [u16], n: usize, atom: Atom)
     table[row + 4] = atom.variable;
 }
 
-// The literals, and a 0 behind them, go to the table from place `to` on.
-fn copy_literals(file: &[u8], from: usize, count: usize, out: &mut [i16], to: usize)
-    requires { ⌜ (from + count * 2 ≤ length (now file)) × (to + count < length (now out)) ⌝ }
-    ensures { λ _. ⌜ take (to + count + 1) (now (out .exit)) ≡ take to (now (out .entry)) ++ literalsIn (now (file .entry)) from count ++ (pos 0 ∷ []) ⌝ }
+// A number goes to its place, if the table has that place.
+fn lay(table: &mut [i16], place: usize, number: i16)
+    ensures { λ _. ⌜ Laid (number ∷ []) place (now (table .entry)) (now (table .exit)) (place + 1) ⌝ }
+{
+    if place < table.len() {
+        table[place] = number;
+    }
+}
+
+// Each of the literals is tested and goes to the table, from place `to` on, and a 0 behind them. False: one is out of range.
+fn take_literals(
+    file: &[u8],
+    from: usize,
+    count: usize,
+    variables: u16,
+    out: &mut [i16],
+    to: usize,
+) -> bool
+    requires { ⌜ (from + count * 2 ≤ length (now file)) × (to ≤ maxTable) ⌝ }
+    ensures { λ r. ⌜ r ≡ literalsOk variables (literalsIn (now (file .entry)) from count) ⌝ }
+    ensures { λ r. ⌜ (r ≡ true → Laid (literalsIn (now (file .entry)) from count ++ (pos 0 ∷ [])) to (now (out .entry)) (now (out .exit)) (to + count + 1)) ⌝ }
 {
     let mut at = from;
     let mut left = count;
     let mut k = to;
     while left > 0 {
-        out[k] = literal(word(file, at));
+        let number = word(file, at);
+        if !literal_ok(variables, number) {
+            return false;
+        }
+        lay(out, k, literal(number));
         at += 2;
         left -= 1;
         k += 1;
     }
-    out[k] = 0;
+    lay(out, k, 0);
+    true
 }
 
 // Some row of the table's used part ends in that variable. A row is `before` numbers and the variable behind them.
@@ -151,14 +176,13 @@ fn take_clause(file: &[u8], at: usize, counts: Plan, clauses: &mut [i16; Clause:
     ensures { λ r. ⌜ ((es bs : List ℕ) → Takes (clauseAt (now (file .entry)) at) counts es bs (now (clauses .entry)) r es bs (now (clauses .exit))) ⌝ }
 {
     let len = wide(word(file, at + 1));
-    if len < 2 {
-        return Step::Refuse(Refusal::BadLength(at));
-    }
     let n = len / 2;
     if n * 2 != len {
         return Step::Refuse(Refusal::BadLength(at));
     }
-    if !literals_ok(file, at + 3, n, counts.variables) {
+    // 6 comes before 7. One pass tests and copies all the same: nothing looks at the tables of a refused file.
+    let to = counts.literals + counts.clauses;
+    if !take_literals(file, at + 3, n, counts.variables, clauses, to) {
         return Step::Refuse(Refusal::OutOfRange(at));
     }
     if counts.clauses >= Clause::MAX {
@@ -167,7 +191,6 @@ fn take_clause(file: &[u8], at: usize, counts: Plan, clauses: &mut [i16; Clause:
     if counts.literals + n > Clause::MAX_LITERALS {
         return Step::Refuse(Refusal::TooMany(at));
     }
-    copy_literals(file, at + 3, n, clauses, counts.literals + counts.clauses);
     let mut next = counts;
     next.clauses += 1;
     next.literals += n;

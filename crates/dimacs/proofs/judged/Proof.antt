@@ -21,11 +21,11 @@ returns-2 c =
 
 returns-3 : tie.Need-returns-3
 returns-3 c =
-    let e = c .before .before .before in
+    let e = c .before .before in
     let d = e .before .before .before in
     let a = d .before .before .before .args in
     λ rs before after h room.
-    rw (past-limit h (a .plan .variables) (a .head .at) (a .head .variables) (a .head .count) (d .if1 .left) (omega (arith, e .if2 .left, e .before .wide .ensures)) (c .before .limit .given .1)) (refl, refl)
+    rw (past-limit h (a .plan .variables) (a .head .at) (a .head .variables) (a .head .count) (d .if1 .left) (omega (arith, e .if2 .left, e .before .wide .ensures)) (omega (arith, c .if3 .taken))) (refl, refl)
 
 returns-4 : tie.Need-returns-4
 returns-4 c =
@@ -34,7 +34,8 @@ returns-4 c =
     let a = d .before .before .before .args in
     λ rs before after h room.
     let l : a .head .variables ≤ a .plan .variables = omega (arith, e .if2 .left, e .before .wide .ensures) in
-    rw (within-limit h (a .plan .variables) (a .head .at) (a .head .variables) (a .head .count) (d .if1 .left) l (c .enum-told .given .1)) (read-is h (c .enum-told .given .1) (room l))
+    let all : a .tally .clauses ≤ a .tally .fitting = omega (arith, c .if3 .left) in
+    rw (within-limit h (a .plan .variables) (a .head .at) (a .head .variables) (a .head .count) (d .if1 .left) l all) (read-is h all (room l))
 
 pub judged-spec : {M : Type 1} → statement M
 judged-spec =
@@ -45,7 +46,5 @@ judged-spec =
     (λ c. search needs)
     (λ c κs. search needs)
     returns-2
-    (λ c. search needs)
-    (λ c. search needs)
     returns-3
     returns-4)

@@ -1,4 +1,5 @@
--- `dimacs::rules::with_end`: the 0 goes behind what stands in the table, and the clause counts.
+-- `dimacs::rules::with_end`: the clause counts, and the first one past the limits is known with it.
+use mathlib.Core.Path.{refl}
 use native.Mathlib.Omega.{arith}
 use borrow.Author.Needs.{needs}
 use Rattle.dimacs.proofs.Tallies as tallies
@@ -8,18 +9,8 @@ use Rattle.dimacs.proofs.rules.with_end.Tie as tie
 returns : tie.Need-returns
 returns c = (
   omega arith,
-  λ done r before h x. tallies.with-end h (c .before .before .before .before .keep .ensures) (c .before .before .limit-with .ensures done r before _ h x),
+  λ done r before mid after h k. tallies.with-end h _ refl k (c .before .before .before .fitting-with .ensures) (c .before .before .past-with .ensures _ _ done r before mid h),
 )
 
 pub with-end-spec : {M : Type 1} → statement M
-with-end-spec =
-    tie.close
-    (tie.spec
-    (λ c. search needs)
-    (λ c. search needs)
-    (λ c κs. search needs)
-    (λ c κs. search needs)
-    (λ c. search needs)
-    (λ c. search needs)
-    (λ c. search needs)
-    returns)
+with-end-spec = tie.close (tie.spec (λ c κs. search needs) (λ c κs. search needs) (λ c. search needs) (λ c. search needs) returns)
