@@ -20,6 +20,8 @@ pub struct Clauses {
     /// Longer clauses; the two watched literals stand first.
     long: Vec<Vec<Lit>>,
     pub units: Vec<Lit>,
+    /// Whether there is an empty clause, which clashes whatever is set.
+    pub has_empty: bool,
 }
 
 impl Clauses {
@@ -29,6 +31,7 @@ impl Clauses {
             lists,
             long: Vec::new(),
             units: Vec::new(),
+            has_empty: false,
         };
         for clause in clauses {
             let mut lits: Vec<Lit> = clause.iter().map(|&literal| lit(literal)).collect();
@@ -44,6 +47,7 @@ impl Clauses {
 
     fn add(&mut self, lits: Vec<Lit>) {
         match *lits.as_slice() {
+            [] => self.has_empty = true,
             [a] => self.units.push(a),
             [a, b] => {
                 self.lists[usize::from(a)].twos.push(b);

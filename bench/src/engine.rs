@@ -110,6 +110,9 @@ impl Engine {
     }
 
     pub fn first_closing(&mut self) -> Result<(), Clash> {
+        if self.clauses.has_empty {
+            return Err(Clash);
+        }
         for k in 0..self.clauses.units.len() {
             self.trail.add(self.clauses.units[k])?;
         }

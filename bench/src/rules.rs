@@ -169,8 +169,11 @@ impl Words<'_> {
             if self.is_end() {
                 break;
             }
+            if table.len() == begin {
+                offset = start;
+            }
             match self.number() {
-                Some((_, 0)) if table.len() > begin => {
+                Some((_, 0)) => {
                     clauses += 1;
                     literals += table.len() - begin;
                     if over.is_none() && (clauses > CLAUSES || literals > LITERALS) {
@@ -179,10 +182,7 @@ impl Words<'_> {
                     table.push(0);
                     begin = table.len();
                 }
-                Some((negative, value)) if value > 0 && value <= variables => {
-                    if table.len() == begin {
-                        offset = start;
-                    }
+                Some((negative, value)) if value <= variables => {
                     // A literal with no room here is above the plan's variables, which is refused.
                     let literal = value as i16;
                     table.push(if negative {

@@ -1,5 +1,5 @@
 //! Request C-11: house rules read from DIMACS text, and the written-out clauses
-//! printed as such a text.
+//! printed as such a text. A clause may be empty (request C-12): a lone 0.
 
 use crate::clauses;
 use crate::file::{refuse, PlanFile, Refusal, CLAUSES, LITERALS, RECORD_HEAD};
@@ -19,7 +19,7 @@ pub struct Rules {
 
 #[derive(Clone, Debug, PartialEq, Eq)]
 pub struct Clause {
-    /// The offset of the clause's first word.
+    /// The offset of the clause's first word, which is its 0 where it is empty.
     pub offset: usize,
     pub literals: Vec<i32>,
 }
@@ -127,11 +127,11 @@ fn clauses_behind(words: &[Word], variables: usize) -> Result<Vec<Clause>, Bad> 
     let mut literals: Vec<i32> = Vec::new();
     for (k, word) in words.iter().enumerate().skip(P_WORDS) {
         match number(word.bytes) {
-            Some(0) if !literals.is_empty() => clauses.push(Clause {
+            Some(0) => clauses.push(Clause {
                 offset: words[k - literals.len()].offset,
                 literals: std::mem::take(&mut literals),
             }),
-            Some(literal) if literal != 0 && literal.unsigned_abs() as usize <= variables => {
+            Some(literal) if literal.unsigned_abs() as usize <= variables => {
                 literals.push(literal);
             }
             _ => return Err(k),

@@ -54,6 +54,10 @@ impl PlanFile {
     pub fn literals(&self) -> usize {
         self.clauses.iter().map(Vec::len).sum()
     }
+
+    pub fn has_empty_clause(&self) -> bool {
+        self.clauses.iter().any(Vec::is_empty)
+    }
 }
 
 /// A row of the table "Numbers given on refusal", with the value also returned.
@@ -144,7 +148,8 @@ fn check_length(record: &Record) -> Result<(), Refusal> {
         HEAD => length == 4,
         EDGE => length == 6,
         ATOM => length == 9,
-        CLAUSE => length >= 2 && length % 2 == 0,
+        // A clause may be empty (request C-12).
+        CLAUSE => length % 2 == 0,
         _ => length == 0,
     };
     if allowed {

@@ -63,7 +63,7 @@ fn length_allowed(tag: u8, length: usize) -> bool {
         1 => length == 4,
         2 => length == 6,
         3 => length == 9,
-        4 => length > 0 && length % 2 == 0,
+        4 => length & 1 == 0,
         5 => length == 0,
         _ => true,
     }

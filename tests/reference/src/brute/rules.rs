@@ -114,11 +114,7 @@ impl Cut {
             self.numbers[*k].is_none_or(|number| number.unsigned_abs() as usize > variables)
         };
         let mut faults: Vec<usize> = clause.clone().filter(too_large).collect();
-        let ended = self.numbers[clause.end - 1] == Some(0);
-        if ended && clause.len() == 1 {
-            faults.push(clause.start);
-        }
-        if !ended {
+        if self.numbers[clause.end - 1] != Some(0) {
             faults.push(clause.end);
         }
         faults.iter().map(|&word| self.place(word)).collect()

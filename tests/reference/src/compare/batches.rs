@@ -13,6 +13,7 @@ const BATCH: usize = 500;
 #[derive(Default)]
 pub struct Compared {
     pub files: usize,
+    pub with_empty_clause: usize,
     pub calls: usize,
     pub sorts: Tally,
     pub by_call: Tally,
@@ -33,6 +34,7 @@ pub fn compare(settings: &Settings, programs: &Programs) -> Result<Compared, Str
             &format!("{:?}", subject.sort).to_lowercase(),
         );
         compared.files += 1;
+        compared.with_empty_clause += usize::from(subject.has_empty_clause());
         batch.extend(subject.requests(share(settings, number), &mut random));
         if batch.len() >= BATCH || number + 1 == settings.files {
             // Every batch ends in a bad request, of one sort or another.

@@ -21,6 +21,7 @@ const BATCH: usize = 50;
 pub struct Checked {
     pub plans: usize,
     pub impossible: usize,
+    pub with_empty_clause: usize,
     pub stock: Option<String>,
 }
 
@@ -45,6 +46,7 @@ pub fn check(settings: &Settings, programs: &Programs) -> Result<Checked, String
                 Some(_) => checked.plans += 1,
                 None => checked.impossible += 1,
             }
+            checked.with_empty_clause += usize::from(plan.has_empty_clause());
         }
     }
     checked.stock = stock.map(|stock| stock.name);

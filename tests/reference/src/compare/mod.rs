@@ -61,7 +61,11 @@ fn compare_calls(settings: &Settings, programs: &Programs) -> Result<(), String>
         "linkcalls: {} calls about {} files, no difference",
         calls.calls, calls.files
     );
-    println!("  files: {}", listed(&calls.sorts));
+    println!(
+        "  files: {}; {} with an empty clause",
+        listed(&calls.sorts),
+        calls.with_empty_clause
+    );
     println!("  calls: {}", listed(&calls.by_call));
     println!("  answers: {}", listed(&calls.answers));
     println!("  answers of read_dimacs: {}", listed(&calls.texts));
@@ -84,8 +88,8 @@ fn compare_programs(settings: &Settings, programs: &Programs) -> Result<(), Stri
 fn ask_solvers(settings: &Settings, programs: &Programs) -> Result<(), String> {
     let lists = lists::check(settings, programs)?;
     println!(
-        "written clauses: {} files with a plan, {} without; search and own solver agree",
-        lists.plans, lists.impossible
+        "written clauses: {} files with a plan, {} without ({} with an empty clause); search and own solver agree",
+        lists.plans, lists.impossible, lists.with_empty_clause
     );
     match lists.stock {
         Some(name) => println!("stock solver: {name}, agrees on all of them"),
@@ -95,8 +99,8 @@ fn ask_solvers(settings: &Settings, programs: &Programs) -> Result<(), String> {
     match solved.stock.join(" and ").as_str() {
         "" => println!("linkdimacs into stock solvers: left out (none was found)"),
         names => println!(
-            "linkdimacs into {names}: {} files with a plan, {} without; agrees with linkplan",
-            solved.plans, solved.impossible
+            "linkdimacs into {names}: {} files with a plan, {} without ({} with an empty clause); agrees with linkplan",
+            solved.plans, solved.impossible, solved.with_empty_clause
         ),
     }
     Ok(())

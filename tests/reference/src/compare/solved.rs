@@ -17,6 +17,7 @@ const MOST_NUMBERS: usize = 100_000;
 pub struct Solved {
     pub plans: usize,
     pub impossible: usize,
+    pub with_empty_clause: usize,
     /// The solvers that were there.
     pub stock: Vec<String>,
 }
@@ -26,16 +27,17 @@ pub fn check(settings: &Settings, programs: &Programs) -> Result<Solved, String>
     let mut solved = Solved::default();
     let mut number = 0;
     while !stock.is_empty() && solved.plans + solved.impossible < settings.solved {
-        let file = draw(settings.seed, number);
+        let subject = draw(settings.seed, number);
         number += 1;
-        let Some(file) = file else {
+        let Some(subject) = subject else {
             continue;
         };
-        let text = programs.run("linkdimacs", &file)?;
-        let exists = says_plan(programs, &file)?;
+        let file = &subject.file;
+        let text = programs.run("linkdimacs", file)?;
+        let exists = says_plan(programs, file)?;
         for solver in &stock {
             if let Err(message) = agrees(solver, &text, exists) {
-                let shown = programs.difference("a text", &file, b"", &text)?;
+                let shown = programs.difference("a text", file, b"", &text)?;
                 return Err(format!("{message}\n{shown}"));
             }
         }
@@ -43,6 +45,7 @@ pub fn check(settings: &Settings, programs: &Programs) -> Result<Solved, String>
             true => solved.plans += 1,
             false => solved.impossible += 1,
         }
+        solved.with_empty_clause += usize::from(subject.has_empty_clause());
     }
     solved.stock = stock.into_iter().map(|solver| solver.name).collect();
     Ok(solved)
@@ -50,12 +53,12 @@ pub fn check(settings: &Settings, programs: &Programs) -> Result<Solved, String>
 
 /// A file that `linkplan` decides. With an atom, the highest variable of the list is
 /// in some clause, so that a solver can tell whether the `p` line's count is right.
-fn draw(seed: u64, number: u64) -> Option<Vec<u8>> {
+fn draw(seed: u64, number: u64) -> Option<Subject> {
     let mut random = Random::part(seed, PARTS + number);
     let subject = Subject::draw(&mut random);
     let (plan, _) = subject.decided()?;
     let fits = !plan.atoms.is_empty() && counts(plan).numbers <= MOST_NUMBERS;
-    fits.then_some(subject.file)
+    fits.then_some(subject)
 }
 
 /// Whether `linkplan` finds a plan.

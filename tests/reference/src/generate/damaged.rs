@@ -1,7 +1,7 @@
 //! Damaged files: a good file with one to three things done to it.
 
 use super::{metro, scattered};
-use crate::file::{ATOM, EDGE};
+use crate::file::{ATOM, CLAUSE, EDGE};
 use crate::random::Random;
 use crate::write;
 
@@ -59,7 +59,7 @@ fn damage_records(records: &mut Vec<Vec<u8>>, random: &mut Random) {
         return;
     }
     let at = random.below(records.len());
-    match random.below(11) {
+    match random.below(13) {
         0 => records[at][0] = random.pick(&[0, 1, 2, 3, 4, 5, 6, 7, 128, 255]),
         1 => {
             let off_by = random.pick(&[1, 2, 255, 254]);
@@ -85,18 +85,36 @@ fn damage_records(records: &mut Vec<Vec<u8>>, random: &mut Random) {
             records.swap(at, other);
         }
         7 | 8 => share_variable(records, random),
+        9 | 10 => resize_clause(records, random),
         _ => damage_field(&mut records[at], random),
+    }
+}
+
+/// The places of a tag's records that have so many bytes or more.
+fn of_tag(records: &[Vec<u8>], tag: u8, least: usize) -> Vec<usize> {
+    (0..records.len())
+        .filter(|&k| records[k][0] == tag && records[k].len() >= least)
+        .collect()
+}
+
+/// Makes a clause empty, which is no damage, or gives it an odd length. Where its
+/// value stays as it was, its bytes stand where the next record should.
+fn resize_clause(records: &mut [Vec<u8>], random: &mut Random) {
+    let clauses = of_tag(records, CLAUSE, 3);
+    if clauses.is_empty() {
+        return;
+    }
+    let clause = &mut records[random.pick(&clauses)];
+    let length: u16 = random.pick(&[0, 0, 1, 1, 3, 5, 257]);
+    clause[1..3].copy_from_slice(&length.to_be_bytes());
+    if random.chance(60) {
+        clause.resize(3 + usize::from(length), 0);
     }
 }
 
 /// Gives an atom an edge's variable or an edge an atom's, where there are both.
 fn share_variable(records: &mut [Vec<u8>], random: &mut Random) {
-    let of_tag = |tag: u8| -> Vec<usize> {
-        (0..records.len())
-            .filter(|&k| records[k][0] == tag && records[k].len() > 5)
-            .collect()
-    };
-    let (edges, atoms) = (of_tag(EDGE), of_tag(ATOM));
+    let (edges, atoms) = (of_tag(records, EDGE, 6), of_tag(records, ATOM, 6));
     if edges.is_empty() || atoms.is_empty() {
         return;
     }

@@ -1,6 +1,7 @@
 //! Files at each limit and one past it, with random contents. Now and then the
 //! last record of its sort has another fault too, for the order of the two.
 
+use super::empty;
 use super::scattered::literal;
 use crate::file::{
     Kind, PlanFile, ATOMS, BOUND, CLAUSES, EDGES, FILE_BYTES, LITERALS, NODES, VARIABLES,
@@ -11,7 +12,7 @@ use crate::write;
 /// A file at one of the limits, or one past it.
 pub fn limit(random: &mut Random) -> Vec<u8> {
     let past = random.below(2);
-    match random.below(9) {
+    match random.below(10) {
         0 => write::to_bytes(&full(random)),
         1 => with_nodes(NODES + past, random),
         2 => with_variables(VARIABLES + past, random),
@@ -19,7 +20,8 @@ pub fn limit(random: &mut Random) -> Vec<u8> {
         4 => faulty(with_atoms(ATOMS + past, random), random),
         5 => faulty(with_clauses(CLAUSES + past, random), random),
         6 => faulty(with_literals(LITERALS + past, random), random),
-        7 => with_bound(BOUND + past, random),
+        7 => faulty(with_empty_clauses(CLAUSES + past, random), random),
+        8 => with_bound(BOUND + past, random),
         _ => with_bytes(FILE_BYTES + past, random),
     }
 }
@@ -128,6 +130,18 @@ fn with_literals(literals: usize, random: &mut Random) -> PlanFile {
         add_clause(&mut plan, length, random);
         left -= length;
     }
+    plan
+}
+
+/// So many clauses, the last of them and some or all others empty, with no, few or
+/// as many literals as there may be, or one more.
+fn with_empty_clauses(clauses: usize, random: &mut Random) -> PlanFile {
+    let any = random.below(LITERALS);
+    let literals = random.pick(&[0, 1, any, LITERALS, LITERALS, LITERALS + 1]);
+    let mut plan = with_literals(literals, random);
+    let missing = clauses - 1 - plan.clauses.len();
+    empty::scatter(&mut plan.clauses, missing, random);
+    plan.clauses.push(Vec::new());
     plan
 }
 

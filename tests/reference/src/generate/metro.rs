@@ -1,17 +1,19 @@
 //! Realistic metro files: rings, dual-homed sites, protection pairs that stay
 //! apart, hop limits.
 
+use super::empty;
 use crate::file::{PlanFile, ATOMS, EDGES, NODES};
 use crate::random::Random;
 
 pub fn metro(random: &mut Random) -> PlanFile {
-    let plan = match random.below(5) {
+    let mut plan = match random.below(5) {
         0 => ring(random.between(3, 12), random),
         1 => dual_homed(random.between(1, 10), random),
         2 => protected(random.between(3, 7), random),
         3 => apart(random.between(4, 10), random),
         _ => city(random.between(2, 3), random.between(3, 6), random),
     };
+    empty::at_times(&mut plan.clauses, random);
     if random.chance(40) {
         plan.renumbered(random)
     } else {

@@ -2,6 +2,7 @@
 
 pub mod build;
 pub mod damaged;
+pub mod empty;
 pub mod layout;
 pub mod limits;
 pub mod metro;

@@ -26,6 +26,33 @@ struct Known {
     plan: PlanFile,
     /// The search with a budget that the reference can afford.
     searched: Searched,
+    /// What that search finds, or would find but for empty clauses.
+    found: Option<Vec<i8>>,
+}
+
+impl Known {
+    fn of(plan: PlanFile) -> Known {
+        let searched = search(&plan, affordable(&plan));
+        let outcome = match plan.has_empty_clause() {
+            true => search(&without_empty_clauses(&plan), affordable(&plan)).outcome,
+            false => searched.outcome.clone(),
+        };
+        let found = match outcome {
+            Outcome::Plan(values) => Some(values),
+            _ => None,
+        };
+        Known {
+            plan,
+            searched,
+            found,
+        }
+    }
+}
+
+fn without_empty_clauses(plan: &PlanFile) -> PlanFile {
+    let mut plan = plan.clone();
+    plan.clauses.retain(|clause| !clause.is_empty());
+    plan
 }
 
 /// Branchings the reference can afford on a file: a closing costs a walk for each
@@ -42,10 +69,7 @@ impl Subject {
     }
 
     pub fn of(sort: Sort, file: Vec<u8>) -> Subject {
-        let plan = read(&file).ok().map(|plan| {
-            let searched = search(&plan, affordable(&plan));
-            Known { plan, searched }
-        });
+        let plan = read(&file).ok().map(Known::of);
         Subject { sort, file, plan }
     }
 
@@ -58,6 +82,12 @@ impl Subject {
 
     pub fn is_refused(&self) -> bool {
         self.plan.is_none()
+    }
+
+    pub fn has_empty_clause(&self) -> bool {
+        self.plan
+            .as_ref()
+            .is_some_and(|known| known.plan.has_empty_clause())
     }
 
     pub fn requests(&self, count: usize, random: &mut Random) -> Vec<Request> {
@@ -199,15 +229,15 @@ impl Known {
         }
     }
 
-    /// A full assignment: the plan found, one close to it, or any.
+    /// A full assignment: what was found, one close to it, or any.
     fn full(&self, random: &mut Random) -> Vec<i8> {
         let any = (0..self.plan.variables)
             .map(|_| random.pick(&[ON, OFF]))
             .collect();
-        let Outcome::Plan(plan) = &self.searched.outcome else {
+        let Some(found) = &self.found else {
             return any;
         };
-        let mut near = plan.clone();
+        let mut near = found.clone();
         match random.below(5) {
             0 | 1 => near,
             2 | 3 => {

@@ -1,5 +1,6 @@
 //! Random files: nothing about them is sensible, so that every rule gets its turn.
 
+use super::empty;
 use crate::file::{Kind, PlanFile, BOUND};
 use crate::random::Random;
 
@@ -71,6 +72,7 @@ fn tight_of(variables: usize, random: &mut Random) -> PlanFile {
         let length = random.pick(&[2, 3, 3, 3, 3, 3, 4, 5]);
         add_clause(&mut plan, length, random);
     }
+    empty::at_times(&mut plan.clauses, random);
     plan
 }
 
@@ -119,6 +121,7 @@ fn scattered(size: &Size, random: &mut Random) -> PlanFile {
             random,
         );
     }
+    empty::at_times(&mut plan.clauses, random);
     plan
 }
 
@@ -197,6 +200,7 @@ pub fn no_path(random: &mut Random) -> PlanFile {
     for _ in 0..clauses {
         add_clause(&mut plan, random.between(2, 4), random);
     }
+    empty::at_times(&mut plan.clauses, random);
     plan.renumbered(random)
 }
 
@@ -229,5 +233,6 @@ pub fn shared(random: &mut Random) -> PlanFile {
     for _ in 0..clauses {
         add_clause(&mut plan, random.between(1, 4), random);
     }
+    empty::at_times(&mut plan.clauses, random);
     plan.renumbered(random)
 }

@@ -1,5 +1,6 @@
-//! What the generators draw: for each sort of file the answers of the search and
-//! how many branchings they took, so that a change of a generator can be judged.
+//! What the generators draw: for each sort of file how many are refused and how many
+//! have an empty clause, the answers of the search and how many branchings they
+//! took, so that a change of a generator can be judged.
 
 use super::requests::affordable;
 use super::{file, Sort, SORTS};
@@ -10,7 +11,7 @@ use std::fmt::Write;
 
 pub fn survey(seed: u64, files: usize) -> String {
     let mut text = format!("seed {seed}, {files} files of each sort\n");
-    text += "sort       refused | plan: 0     1-9   10-99    100+ | impossible: 0     1-9   10-99    100+ | undecided\n";
+    text += "sort       refused   empty | plan: 0     1-9   10-99    100+ | impossible: 0     1-9   10-99    100+ | undecided\n";
     for sort in SORTS {
         text += &row(sort, seed, files);
     }
@@ -20,6 +21,7 @@ pub fn survey(seed: u64, files: usize) -> String {
 fn row(sort: Sort, seed: u64, files: usize) -> String {
     let mut refused = 0;
     let mut undecided = 0;
+    let mut with_empty_clause = 0;
     let (mut plans, mut impossibles) = ([0; 4], [0; 4]);
     for number in 0..files as u64 {
         let bytes = file(sort, &mut Random::part(seed, number));
@@ -27,6 +29,7 @@ fn row(sort: Sort, seed: u64, files: usize) -> String {
             refused += 1;
             continue;
         };
+        with_empty_clause += usize::from(plan.has_empty_clause());
         let searched = search(&plan, affordable(&plan));
         let size = (searched
             .branchings
@@ -39,7 +42,10 @@ fn row(sort: Sort, seed: u64, files: usize) -> String {
             Outcome::Undecided => undecided += 1,
         }
     }
-    let mut text = format!("{:<10} {refused:>7} |", format!("{sort:?}"));
+    let mut text = format!(
+        "{:<10} {refused:>7} {with_empty_clause:>7} |",
+        format!("{sort:?}")
+    );
     for counts in [plans, impossibles] {
         counts
             .iter()

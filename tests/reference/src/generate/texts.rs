@@ -1,5 +1,6 @@
 //! DIMACS texts for a plan file: good ones in any layout, and damaged ones.
 
+use super::empty;
 use super::layout::lay_out;
 use super::scattered::literal;
 use crate::file::{PlanFile, CLAUSES, LITERALS};
@@ -48,11 +49,14 @@ fn long_comment(random: &mut Random) -> Vec<u8> {
 
 /// A good text, before a layout is drawn for it.
 fn words(plan: &PlanFile, random: &mut Random) -> Words {
-    let variables = match random.below(2) {
-        0 => random.between(1, plan.variables),
+    let variables = match random.below(16) {
+        0 => 0,
+        1..=7 => random.between(1, plan.variables),
         _ => plan.variables,
     };
-    let clauses = match random.below(8) {
+    // Whether the file's own empty clauses count shows only at a limit.
+    let seldom = if plan.has_empty_clause() { 2 } else { 8 };
+    let clauses = match random.below(seldom) {
         0 => at_a_limit(plan, variables, random),
         _ => few(variables, random),
     };
@@ -76,13 +80,21 @@ fn words_of(variables: usize, clauses: &[Vec<i16>]) -> Words {
 fn few(variables: usize, random: &mut Random) -> Vec<Vec<i16>> {
     let most = random.pick(&[2, 3, 12]);
     let count = random.between(0, most);
-    (0..count)
+    let mut clauses = (0..count)
         .map(|_| drawn(variables, random.pick(&[1, 2, 2, 3, 5]), random))
-        .collect()
+        .collect();
+    if random.chance(25) {
+        empty::put_in(&mut clauses, random);
+    }
+    clauses
 }
 
-/// The highest variable comes more often than the others.
+/// The highest variable comes more often than the others. Without variables there
+/// are no literals, and the clause is empty.
 fn drawn(variables: usize, length: usize, random: &mut Random) -> Vec<i16> {
+    if variables == 0 {
+        return Vec::new();
+    }
     let highest = variables as i16;
     (0..length)
         .map(|_| match random.below(8) {
@@ -98,7 +110,7 @@ fn at_a_limit(plan: &PlanFile, variables: usize, random: &mut Random) -> Vec<Vec
     let furthest = random.pick(&[0, 1, 40]);
     let past = random.between(furthest.min(1), furthest);
     let (mut clauses, mut literals) = (CLAUSES - plan.clauses.len(), LITERALS - plan.literals());
-    match random.below(3) {
+    match random.below(4) {
         0 => {
             clauses += past;
             literals = random.between(clauses.min(literals), literals);
@@ -107,9 +119,14 @@ fn at_a_limit(plan: &PlanFile, variables: usize, random: &mut Random) -> Vec<Vec
             literals += past;
             clauses = random.between(1, clauses.max(1));
         }
-        _ => {
+        2 => {
             clauses += past;
             literals += past;
+        }
+        // Fewer literals than clauses, so that the one too many may be empty.
+        _ => {
+            clauses += past;
+            literals = random.below(clauses.min(literals) + 1);
         }
     }
     lengths(clauses, literals, random)
@@ -118,12 +135,12 @@ fn at_a_limit(plan: &PlanFile, variables: usize, random: &mut Random) -> Vec<Vec
         .collect()
 }
 
-/// The lengths of so many clauses with so many literals in all; fewer clauses
-/// where there are not enough literals for them.
+/// The lengths of so many clauses with so many literals in all; some are empty where
+/// there are not enough literals for them, and now and then where there are.
 fn lengths(clauses: usize, literals: usize, random: &mut Random) -> Vec<usize> {
-    let clauses = clauses.min(literals);
-    let mut lengths = vec![1; clauses];
-    let mut left = literals - clauses;
+    let shortest = usize::from(clauses <= literals && random.chance(80));
+    let mut lengths = vec![shortest; clauses];
+    let mut left = literals - shortest * clauses;
     while left > 0 && clauses > 0 {
         let some = random.between(1, left.min(9));
         lengths[random.below(clauses)] += some;
@@ -182,29 +199,51 @@ const FAR_NUMBERS: [&[u8]; 18] = [
 /// One thing wrong with the words, or at an end of what is right.
 fn spoil(words: &mut Words, plan: &PlanFile, random: &mut Random) {
     let at = random.between(BEHIND_P.min(words.len()), words.len());
-    match random.below(16) {
+    match random.below(19) {
         0 | 1 => change(words, C, |count| {
             count + random.pick(&[1, -1, 1, -1, 1_000])
         }),
         2 => set(words, C, random.pick(&FAR_NUMBERS)),
-        3 | 4 => set(words, V, (plan.variables + 1).to_string().as_bytes()),
-        5 => set(words, V, random.pick(&FAR_NUMBERS)),
-        6 => change(words, V, |variables| variables - 1),
-        7 | 8 => set(words, at, &one_above(words, random)),
-        9 => set(words, at, random.pick(&NO_NUMBERS)),
-        10 => set(words, random.below(BEHIND_P), random.pick(&NO_NUMBERS)),
-        11 => set(words, at, random.pick(&FAR_NUMBERS)),
-        12 => {
+        3..=5 => set(words, V, (plan.variables + 1).to_string().as_bytes()),
+        6 => set(words, V, random.pick(&FAR_NUMBERS)),
+        7 => change(words, V, |variables| variables - 1),
+        8 | 9 => set(words, at, &one_above(words, random)),
+        10 => set(words, at, random.pick(&NO_NUMBERS)),
+        11 => set(words, random.below(BEHIND_P), random.pick(&NO_NUMBERS)),
+        12 => set(words, at, random.pick(&FAR_NUMBERS)),
+        13 => {
             words.pop();
         }
-        13 if at < words.len() => {
+        14 if at < words.len() => {
             words.remove(at);
         }
-        14 => words.insert(at, b"0".to_vec()),
+        // One clause more than the `p` line says.
+        15 => words.insert(at, b"0".to_vec()),
+        16 => leave_unended(words, random),
+        17 => set(words, zero(words, random), b"-"),
         _ => words.insert(
             random.below(words.len() + 1),
             random.pick(&NO_NUMBERS).to_vec(),
         ),
+    }
+}
+
+/// A lone 0, and a clause without one behind it, which the `p` line counts or not.
+fn leave_unended(words: &mut Words, random: &mut Random) {
+    let literal = number_at(words, V).unwrap_or(0).max(1);
+    let last = random.pick(&[literal, -literal]).to_string();
+    words.extend([b"0".to_vec(), last.into_bytes()]);
+    change(words, C, |count| count + random.pick(&[1, 2]));
+}
+
+/// The place of some clause's 0, or the one behind the words.
+fn zero(words: &Words, random: &mut Random) -> usize {
+    let zeros: Vec<usize> = (BEHIND_P..words.len())
+        .filter(|&place| words[place] == b"0")
+        .collect();
+    match zeros.is_empty() {
+        true => words.len(),
+        false => random.pick(&zeros),
     }
 }
 

@@ -17,6 +17,7 @@ use crate::random::Random;
 use crate::reason::{reason, Reason};
 use crate::sat;
 use crate::search::{search, Outcome};
+use crate::stored;
 use crate::write;
 use crate::written::continuations;
 
@@ -24,6 +25,7 @@ use crate::written::continuations;
 pub fn run(seed: u64, files: usize) -> String {
     known::check();
     rules::check_known();
+    stored::calls::confirm().expect("the stored calls answer as they say");
     for number in 0..files as u64 {
         let mut random = Random::part(seed, number);
         check_reading(&mut random);

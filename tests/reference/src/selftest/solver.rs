@@ -4,7 +4,7 @@
 use crate::brute::plans;
 use crate::clauses;
 use crate::generate::requests::Subject;
-use crate::generate::{file, Sort};
+use crate::generate::{empty, file, Sort};
 use crate::random::Random;
 use crate::sat::{clauses_of, solve};
 use crate::search::Outcome;
@@ -22,7 +22,8 @@ pub fn check(random: &mut Random) {
         };
         (0..length).map(|_| literal(random)).collect()
     };
-    let clauses: Vec<Vec<i16>> = (0..count).map(|_| clause(random)).collect();
+    let mut clauses: Vec<Vec<i16>> = (0..count).map(|_| clause(random)).collect();
+    empty::at_times(&mut clauses, random);
     let is_model = |values: &Vec<i8>| clauses.iter().all(|c| plans::clause_is_true(values, c));
     let exists = plans::assignments(variables).any(|values| is_model(&values));
     let wide: Vec<Vec<i32>> = clauses

@@ -1,6 +1,6 @@
 //! Files that are accepted, among them one at each limit.
 
-use super::Cases;
+use super::{around, Cases};
 use crate::sample;
 use crate::write::{atom, clause, edge, end, head};
 
@@ -8,6 +8,7 @@ pub fn add(cases: &mut Cases) {
     add_small(cases);
     add_limits(cases);
     add_freedoms(cases);
+    add_empty_clauses(cases);
 }
 
 fn add_small(cases: &mut Cases) {
@@ -176,5 +177,68 @@ fn add_freedoms(cases: &mut Cases) {
         "two-byte-literals",
         "literals with a high byte",
         file,
+    );
+}
+
+/// A clause may be empty (request C-12), wherever it stands.
+fn add_empty_clauses(cases: &mut Cases) {
+    let (empty, one) = (clause(&[]), clause(&[1]));
+    cases.accepted(
+        [3, 5, 0, 0, 1, 0],
+        "empty-clause",
+        "an empty clause and no other",
+        around(empty.clone()),
+    );
+    let (other, edge) = (clause(&[-5, 2]), edge(0, 1, 1));
+    let places = [
+        ([&empty, &one, &other], "empty-clause-first", "first"),
+        (
+            [&one, &empty, &other],
+            "empty-clause-middle",
+            "in the middle",
+        ),
+        ([&one, &other, &empty], "empty-clause-last", "last"),
+    ];
+    for (records, name, place) in places {
+        let what = format!("three clauses, the empty one {place}");
+        let file = around(records.map(Vec::as_slice).concat());
+        cases.accepted([3, 5, 0, 0, 3, 3], name, &what, file);
+    }
+    let records = [&empty, &empty, &edge, &empty, &one, &empty, &empty];
+    cases.accepted(
+        [3, 5, 1, 0, 6, 1],
+        "empty-clauses",
+        "five empty clauses around an edge and a clause",
+        around(records.map(Vec::as_slice).concat()),
+    );
+    add_empty_clauses_at_limits(cases);
+}
+
+fn add_empty_clauses_at_limits(cases: &mut Cases) {
+    let long = clause(&[1; 4_096]);
+    let with = |records: &[Vec<u8>]| [head(1, 1), records.concat(), end()].concat();
+    cases.accepted(
+        [1, 1, 0, 0, 1_024, 0],
+        "1024-empty-clauses",
+        "1,024 empty clauses",
+        with(&[clause(&[]).repeat(1_024)]),
+    );
+    cases.accepted(
+        [1, 1, 0, 0, 1_024, 1_023],
+        "1024-clauses-last-empty",
+        "1,023 clauses of one literal and an empty one",
+        with(&[clause(&[1]).repeat(1_023), clause(&[])]),
+    );
+    cases.accepted(
+        [1, 1, 0, 0, 1_024, 4_096],
+        "4096-literals-then-empty",
+        "4,096 literals in one clause, then 1,023 empty ones",
+        with(&[long.clone(), clause(&[]).repeat(1_023)]),
+    );
+    cases.accepted(
+        [1, 1, 0, 0, 1_024, 4_096],
+        "4096-literals-behind-empty",
+        "1,023 empty clauses, then 4,096 literals in one",
+        with(&[clause(&[]).repeat(1_023), long]),
     );
 }

@@ -1,9 +1,11 @@
 //! The stored stream over all eight calls: cases chosen by hand, then drawn ones.
 
-use super::texts;
+use super::answered::Answered;
+use super::ask::{close, judge, read, reason, search, write_clauses};
+use super::{empty, texts};
 use crate::file::{Kind, PlanFile};
 use crate::generate::requests::requests as drawn;
-use crate::protocol::{Request, CLOSE, JUDGE, READ, REASON, SEARCH, WRITE_CLAUSES};
+use crate::protocol::Request;
 use crate::sample;
 use crate::write::to_bytes;
 use std::io::Result;
@@ -13,64 +15,30 @@ const DRAWN: usize = 600;
 /// Longer files and texts would make the stored stream large and say nothing new.
 const LARGEST: usize = 700;
 
+/// Those whose answers are written by hand.
+fn answered() -> Vec<Answered> {
+    let mut answered = texts::answered();
+    answered.extend(empty::answered());
+    answered
+}
+
+/// Whether they are answered as they say.
+pub fn confirm() -> Result<()> {
+    answered().iter().try_for_each(Answered::confirm)
+}
+
 pub fn requests() -> Result<Vec<Request>> {
+    confirm()?;
     let mut requests = sample_requests();
     requests.extend(small_cases());
     requests.extend(shared_cases());
     requests.extend(hop_cases());
     requests.extend(refused_file());
-    requests.extend(texts::requests()?);
+    requests.extend(answered().into_iter().map(|one| one.request));
     let mut some = drawn(SEED, DRAWN, LARGEST);
     some.retain(|request| request.assignment.len() <= LARGEST);
     requests.extend(some);
     Ok(requests)
-}
-
-fn ask(call: u8, file: &[u8]) -> Request {
-    Request {
-        call,
-        file: file.to_vec(),
-        ..Request::default()
-    }
-}
-
-fn judge(file: &[u8], values: &[i8]) -> Request {
-    Request {
-        assignment: values.to_vec(),
-        ..ask(JUDGE, file)
-    }
-}
-
-fn close(file: &[u8], values: &[i8], room: u16) -> Request {
-    Request {
-        assignment: values.to_vec(),
-        room,
-        ..ask(CLOSE, file)
-    }
-}
-
-fn reason(file: &[u8], values: &[i8], atom: u16, room: u16) -> Request {
-    Request {
-        assignment: values.to_vec(),
-        atom,
-        room,
-        ..ask(REASON, file)
-    }
-}
-
-fn search(file: &[u8], budget: u32, room: u16) -> Request {
-    Request {
-        budget,
-        room,
-        ..ask(SEARCH, file)
-    }
-}
-
-fn write_clauses(file: &[u8], room: u16) -> Request {
-    Request {
-        room,
-        ..ask(WRITE_CLAUSES, file)
-    }
 }
 
 /// P5 to P10, the runs that document 01 names, and each of 9 to 12 with and
@@ -79,7 +47,7 @@ fn sample_requests() -> Vec<Request> {
     let file = &sample::bytes();
     let plan = [1, 1, -1, -1, 1];
     let mut requests = vec![
-        ask(READ, file),
+        read(file),
         judge(file, &plan),
         judge(file, &[1, 1, 1, -1, 1]),
         judge(file, &[1, 1, -1, -1, -1]),
@@ -147,7 +115,7 @@ fn every_call(plan: &PlanFile) -> Vec<Request> {
     let file = &to_bytes(plan);
     let room = plan.variables as u16;
     let mut requests = vec![
-        ask(READ, file),
+        read(file),
         search(file, 1_000, room),
         write_clauses(file, 1_200),
     ];
@@ -263,7 +231,7 @@ fn hop_cases() -> Vec<Request> {
 fn refused_file() -> Vec<Request> {
     let file = &sample::bytes()[..70];
     vec![
-        ask(READ, file),
+        read(file),
         judge(file, &[2; 3]),
         close(file, &[2; 3], 2),
         reason(file, &[2; 3], 0, 2),

@@ -127,6 +127,14 @@ fn add_literal_out_of_range(cases: &mut Cases) {
         "the last of seven literals is 0",
         last,
     );
+    let behind = around([clause(&[]), clause(&[6])].concat());
+    cases.refused(
+        6,
+        SECOND + clause(&[]).len(),
+        "literal-6-behind-empty",
+        "an empty clause, then a literal out of range",
+        behind,
+    );
 }
 
 fn named(literal: i16) -> String {
@@ -149,6 +157,7 @@ fn add_too_many(cases: &mut Cases) {
         "1,025 clauses",
         file,
     );
+    add_too_many_with_empty(cases);
     let file = [head(1, 1), clause(&[1; 4_097]), end()].concat();
     cases.refused(
         7,
@@ -174,6 +183,45 @@ fn add_too_many(cases: &mut Cases) {
         "4097-literals-in-1024",
         "1,024 clauses with 4,097 literals",
         file,
+    );
+}
+
+/// Empty clauses count as clauses, and hold no literals.
+fn add_too_many_with_empty(cases: &mut Cases) {
+    let (empty, one, long) = (clause(&[]), clause(&[1]), clause(&[1; 4_096]));
+    let mut refused = |before: Vec<u8>, last: &[u8], name: &str, what: &str| {
+        let file = [&head(1, 1), &before, last, &end()].concat();
+        cases.refused(7, SECOND + before.len(), name, what, file);
+    };
+    refused(
+        one.repeat(1_024),
+        &empty,
+        "1025-clauses-last-empty",
+        "1,024 clauses of one literal and an empty one",
+    );
+    refused(
+        empty.repeat(1_024),
+        &empty,
+        "1025-empty-clauses",
+        "1,025 empty clauses",
+    );
+    refused(
+        empty.repeat(1_024),
+        &one,
+        "1025-clauses-but-one-empty",
+        "1,024 empty clauses and one of one literal",
+    );
+    refused(
+        [long.clone(), empty.repeat(1_023)].concat(),
+        &empty,
+        "1025-clauses-4096-literals",
+        "4,096 literals in one clause, then 1,024 empty ones",
+    );
+    refused(
+        [long, empty].concat(),
+        &one,
+        "4097-literals-around-empty",
+        "4,096 literals, an empty clause and one more literal",
     );
 }
 

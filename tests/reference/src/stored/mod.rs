@@ -3,11 +3,14 @@
 //! only confirms it before a file is written.
 
 mod accepted;
+mod answered;
+mod ask;
 pub mod calls;
 mod contents;
+mod empty;
 mod order;
 mod refused;
-pub mod texts;
+mod texts;
 
 use crate::brute;
 use crate::calls::read;
@@ -93,15 +96,20 @@ pub fn write_files(folder: &Path) -> Result<()> {
     fs::write(folder.join(INDEX), index)
 }
 
-fn confirm(case: &Case) -> Result<()> {
-    let said = text(read(&case.file));
-    let again = match brute::reader::read(&case.file) {
+/// What brute force says of a file.
+fn brute_read(file: &[u8]) -> String {
+    match brute::reader::read(file) {
         Ok(counts) => format!(
             "accepted {}",
             counts.map(|count| count.to_string()).join(" ")
         ),
         Err(refusal) => format!("refused {} {}", refusal.number, refusal.value),
-    };
+    }
+}
+
+fn confirm(case: &Case) -> Result<()> {
+    let said = text(read(&case.file));
+    let again = brute_read(&case.file);
     if said == case.expected && again == case.expected {
         return Ok(());
     }

@@ -135,6 +135,14 @@ fn add_limits_before_sharing(cases: &mut Cases) {
         "a 1,025th clause out of range",
         file,
     );
+    let file = [head(1, 1), before.clone(), record(CLAUSE, &[1]), end()].concat();
+    cases.refused(
+        5,
+        SECOND + before.len(),
+        "before-7-clause",
+        "a 1,025th clause of one byte",
+        file,
+    );
     let literals = [vec![1; 4_096], vec![2]].concat();
     let file = [head(1, 1), clause(&literals), end()].concat();
     cases.refused(

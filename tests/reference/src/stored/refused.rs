@@ -11,6 +11,7 @@ pub fn add(cases: &mut Cases) {
     add_wrong_place(cases);
     add_unknown_tag(cases);
     add_wrong_length(cases);
+    add_behind_empty_clause(cases);
 }
 
 fn add_too_long(cases: &mut Cases) {
@@ -147,6 +148,13 @@ fn add_wrong_place(cases: &mut Cases) {
         "a clause first",
         [clause(&[1]), end()].concat(),
     );
+    cases.refused(
+        3,
+        0,
+        "first-empty-clause",
+        "an empty clause first",
+        [clause(&[]), head(3, 5), end()].concat(),
+    );
     cases.refused(3, 0, "first-end", "an end record and nothing else", end());
     cases.refused(
         3,
@@ -189,6 +197,13 @@ fn add_wrong_place(cases: &mut Cases) {
         "edge-behind",
         "an edge behind the end record",
         behind(&edge(0, 1, 1)),
+    );
+    cases.refused(
+        3,
+        71,
+        "empty-clause-behind",
+        "an empty clause behind the end record",
+        behind(&clause(&[])),
     );
     cases.refused(3, 71, "file-behind", "the sample twice", behind(&sample));
     cases.refused(
@@ -268,27 +283,15 @@ fn add_wrong_length(cases: &mut Cases) {
             file,
         );
     }
-    cases.refused(
-        5,
-        SECOND,
-        "clause-0",
-        "an empty clause",
-        around(record(CLAUSE, &[])),
-    );
-    cases.refused(
-        5,
-        SECOND,
-        "clause-1",
-        "a clause of one byte",
-        around(record(CLAUSE, &[1])),
-    );
-    cases.refused(
-        5,
-        SECOND,
-        "clause-3",
-        "a clause of three bytes",
-        around(record(CLAUSE, &[0, 1, 0])),
-    );
+    for value in [&[1][..], &[0, 1, 0], &[0, 1, 0, 2, 0]] {
+        cases.refused(
+            5,
+            SECOND,
+            &format!("clause-{}", value.len()),
+            "a clause of an odd length",
+            around(record(CLAUSE, value)),
+        );
+    }
     for length in [1, 3] {
         let file = [head(3, 5), record(END, &[0, 0, 0][..length])].concat();
         cases.refused(
@@ -297,6 +300,42 @@ fn add_wrong_length(cases: &mut Cases) {
             &format!("end-{length}"),
             "an end record with a value",
             file,
+        );
+    }
+}
+
+/// An empty clause is three bytes, and what is wrong stands next to it.
+fn add_behind_empty_clause(cases: &mut Cases) {
+    let third = SECOND + clause(&[]).len();
+    let behind = |bytes: &[u8]| [&head(3, 5), &clause(&[]), bytes].concat();
+    let cut = [head(3, 5), clause(&[])[..2].to_vec()].concat();
+    cases.refused(
+        2,
+        SECOND,
+        "empty-clause-cut",
+        "an empty clause cut to two bytes",
+        cut,
+    );
+    let wrongs: [(u32, &str, &str, Vec<u8>); 6] = [
+        (2, "nothing", "no end record", Vec::new()),
+        (
+            2,
+            "cut",
+            "an edge cut by one byte",
+            edge(0, 1, 1)[..8].into(),
+        ),
+        (2, "value", "a literal's two bytes", vec![0, 1, END, 0, 0]),
+        (3, "head", "a second head", head(3, 5)),
+        (4, "tag-6", "an unknown tag", record(6, &[])),
+        (5, "odd", "a clause of one byte", record(CLAUSE, &[1])),
+    ];
+    for (number, name, what, bytes) in wrongs {
+        cases.refused(
+            number,
+            third,
+            &format!("empty-clause-then-{name}"),
+            &format!("an empty clause, then {what}"),
+            behind(&bytes),
         );
     }
 }

@@ -1,19 +1,11 @@
-//! Stored requests of `write_dimacs` and `read_dimacs`. Each text says its expected
-//! answer by hand; the reference and brute force only confirm it.
+//! Stored requests of `write_dimacs` and `read_dimacs`.
 
+use super::answered::Answered;
+use super::ask::{read_dimacs, write_dimacs};
 use super::{around, SECOND};
-use crate::brute;
-use crate::file::{read, PlanFile};
-use crate::protocol::{line, Request, READ_DIMACS, WRITE_DIMACS};
+use crate::file::PlanFile;
 use crate::sample;
 use crate::write::{clause, end, head, to_bytes};
-use std::io::{Error, Result};
-
-/// A request with the beginning of its line.
-struct Case {
-    request: Request,
-    expected: String,
-}
 
 /// For the sample, with its 5 variables, 2 clauses and 2 literals.
 const GOOD: [(&[u8], &str); 21] = [
@@ -99,12 +91,11 @@ const BAD_P_LINES: [(&[u8], &str); 39] = [
 ];
 
 /// Something wrong behind the `p` line; `p cnf 5 1` and its line's end are 10 bytes.
-const BAD_CLAUSES: [(&[u8], &str); 43] = [
+const BAD_CLAUSES: [(&[u8], &str); 38] = [
     (b"p cnf 5 1\n6 0\n", "refused 20 10"),
     (b"p cnf 5 1\n1 -6 0", "refused 20 12"),
     (b"p cnf 4 1\n5 0", "refused 20 10"),
     (b"p cnf 0 1\n1 0\n", "refused 20 10"),
-    (b"p cnf 0 1\n0\n", "refused 20 10"),
     (b"p cnf 5 1\n65537 0", "refused 20 10"),
     (b"p cnf 5 1\n2147483647 0", "refused 20 10"),
     (b"p cnf 5 1\n2147483648 0", "refused 20 10"),
@@ -137,10 +128,6 @@ const BAD_CLAUSES: [(&[u8], &str); 43] = [
     (b"p cnf 5 1\n1 p 0", "refused 20 12"),
     (b"p cnf 5 1\np cnf 5 1\n1 0", "refused 20 10"),
     (b"p cnf 5 1\n1 0\np cnf 5 1\n", "refused 20 14"),
-    (b"p cnf 5 1\n0\n", "refused 20 10"),
-    (b"p cnf 5 1\n-0\n", "refused 20 10"),
-    (b"p cnf 5 2\n1 0 0", "refused 20 14"),
-    (b"p cnf 5 2\n1 0\nc 1\n00\n", "refused 20 18"),
     (b"p cnf 5 1\n1 2", "refused 20 13"),
     (b"p cnf 5 1\n1 2\n", "refused 20 14"),
     (b"p cnf 5 1\n1 2\nc 0", "refused 20 17"),
@@ -149,12 +136,11 @@ const BAD_CLAUSES: [(&[u8], &str); 43] = [
 ];
 
 /// 20 over all of the text, then 21, then 22, each with what would come after it.
-const ORDER: [(&[u8], &str); 17] = [
+const ORDER: [(&[u8], &str); 16] = [
     (b"p cnf 5 9\n1 0\n2 x 0\n", "refused 20 16"),
     (b"p cnf 5 9\n1 0\n2\n", "refused 20 16"),
     (b"p cnf 9 9\n1 0\n10 0\n", "refused 20 14"),
     (b"p cnf 6 1\n7 0", "refused 20 10"),
-    (b"p cnf 6 0\n0", "refused 20 10"),
     (b"p cnf 2147483648 x", "refused 20 6"),
     (b"p cnf 5 0\n1 0", "refused 21 0"),
     (b"p cnf 5 2\n1 0", "refused 21 0"),
@@ -169,31 +155,17 @@ const ORDER: [(&[u8], &str); 17] = [
     (b"p cnf 2147483647 1\n-2147483647 0", "refused 22 0"),
 ];
 
-fn ask(file: &[u8], text: &[u8], room: u16) -> Request {
-    let mut request = Request {
-        call: READ_DIMACS,
-        file: file.to_vec(),
-        room,
-        ..Request::default()
-    };
-    request.set_text(text);
-    request
+pub fn case(file: &[u8], text: &[u8], room: u16, expected: &str) -> Answered {
+    Answered::new(read_dimacs(file, text, room), expected)
 }
 
-fn case(request: Request, expected: &str) -> Case {
-    Case {
-        request,
-        expected: expected.into(),
-    }
-}
-
-fn cases() -> Vec<Case> {
+pub fn answered() -> Vec<Answered> {
     let sample = &sample::bytes();
     let tables = [&GOOD[..], &BAD_P_LINES, &BAD_CLAUSES, &ORDER];
-    let mut cases: Vec<Case> = tables
+    let mut cases: Vec<Answered> = tables
         .concat()
         .into_iter()
-        .map(|(text, expected)| case(ask(sample, text, 16), expected))
+        .map(|(text, expected)| case(sample, text, 16, expected))
         .collect();
     cases.extend(room_cases(sample));
     cases.extend(limit_cases(sample));
@@ -204,22 +176,22 @@ fn cases() -> Vec<Case> {
 }
 
 /// Exactly enough room, one more, and too little.
-fn room_cases(sample: &[u8]) -> Vec<Case> {
+fn room_cases(sample: &[u8]) -> Vec<Answered> {
     let text = b"p cnf 5 2\n1 -2 0 5 0\n";
-    let read = |room: u16, expected: &str| case(ask(sample, text, room), expected);
+    let read = |room: u16, expected: &str| case(sample, text, room, expected);
     vec![
         read(12, "rules 2 3 : 4 0 4 0 1 255 254 4 0 2 0 5"),
         read(13, "rules 2 3 : 4 0 4 0 1 255 254 4 0 2 0 5 77"),
         read(11, "refused 12 12 : 77 77 77 77 77 77 77 77 77 77 77"),
         read(1, "refused 12 12 : 77"),
         read(0, "refused 12 12 :"),
-        case(ask(sample, b"p cnf 5 0", 0), "rules 0 0 :"),
-        case(ask(sample, b"p cnf 5 0", 1), "rules 0 0 : 77"),
+        case(sample, b"p cnf 5 0", 0, "rules 0 0 :"),
+        case(sample, b"p cnf 5 0", 1, "rules 0 0 : 77"),
     ]
 }
 
 /// `p cnf 5 COUNT`, clauses of so many literals, each on a line of its own.
-fn clauses_of(lengths: &[usize]) -> Vec<u8> {
+pub fn clauses_of(lengths: &[usize]) -> Vec<u8> {
     let mut text = format!("p cnf 5 {}\n", lengths.len()).into_bytes();
     for &length in lengths {
         text.extend(b"1 ".repeat(length));
@@ -229,8 +201,8 @@ fn clauses_of(lengths: &[usize]) -> Vec<u8> {
 }
 
 /// The limits count the sample's own 2 clauses and 2 literals.
-fn limit_cases(sample: &[u8]) -> Vec<Case> {
-    let read = |text: &[u8], room: u16, expected: &str| case(ask(sample, text, room), expected);
+fn limit_cases(sample: &[u8]) -> Vec<Answered> {
+    let read = |text: &[u8], room: u16, expected: &str| case(sample, text, room, expected);
     // A `p` line of four digits is 13 bytes, one of one digit 10; a clause of one is 4.
     let ones = |count: usize| clauses_of(&vec![1; count]);
     let commented = [b"p cnf 5 1023\n", &ones(1_022)[13..], b"c x\n \t2 0"].concat();
@@ -262,9 +234,9 @@ fn limit_cases(sample: &[u8]) -> Vec<Case> {
 }
 
 /// Files whose own clauses leave no room, or room for one.
-fn full_file_cases() -> Vec<Case> {
+fn full_file_cases() -> Vec<Answered> {
     let with = |clauses: Vec<u8>| [head(1, 5), clauses, end()].concat();
-    let read = |file: &[u8], text: &[u8], expected: &str| case(ask(file, text, 7), expected);
+    let read = |file: &[u8], text: &[u8], expected: &str| case(file, text, 7, expected);
     let full = &with(clause(&[1]).repeat(1_024));
     let nearly = &with(clause(&[1]).repeat(1_023));
     let long = &with(clause(&[1; 4_096]));
@@ -286,8 +258,8 @@ fn full_file_cases() -> Vec<Case> {
 }
 
 /// The file's refusals come before the text's, and a text may fit a file without clauses.
-fn file_cases(sample: &[u8]) -> Vec<Case> {
-    let read = |file: &[u8], text: &[u8], expected: &str| case(ask(file, text, 5), expected);
+fn file_cases(sample: &[u8]) -> Vec<Answered> {
+    let read = |file: &[u8], text: &[u8], expected: &str| case(file, text, 5, expected);
     let too_long = [sample, &[0; 16_384]].concat();
     let odd = around(vec![4, 0, 1, 1]);
     vec![
@@ -318,22 +290,16 @@ fn file_cases(sample: &[u8]) -> Vec<Case> {
     ]
 }
 
-fn printed(file: &[u8], room: u16, expected: &str) -> Case {
-    let request = Request {
-        call: WRITE_DIMACS,
-        file: file.to_vec(),
-        room,
-        ..Request::default()
-    };
-    case(request, expected)
+fn printed(file: &[u8], room: u16, expected: &str) -> Answered {
+    Answered::new(write_dimacs(file, room), expected)
 }
 
 /// The places of a text.
-fn places(text: &str) -> String {
+pub fn places(text: &str) -> String {
     text.bytes().map(|byte| format!(" {byte}")).collect()
 }
 
-fn print_cases(sample: &[u8]) -> Vec<Case> {
+fn print_cases(sample: &[u8]) -> Vec<Answered> {
     let text = places(sample::DIMACS);
     let smallest = &[head(1, 1), end()].concat();
     let mut row = PlanFile::with_nodes(1);
@@ -367,42 +333,4 @@ fn print_cases(sample: &[u8]) -> Vec<Case> {
         printed(&sample[..70], 3, "refused 2 68 : 77 77 77"),
         printed(&[], 0, "refused 2 0 :"),
     ]
-}
-
-/// Whether the reference and brute force say what each case says.
-pub fn confirm() -> Result<()> {
-    cases().iter().try_for_each(confirm_one)
-}
-
-fn confirm_one(case: &Case) -> Result<()> {
-    let said = line(&case.request);
-    let answer = case.expected.split(" :").next().unwrap_or("");
-    let again = brute_answer(&case.request).unwrap_or(answer.into());
-    if said.starts_with(&case.expected) && again == answer {
-        return Ok(());
-    }
-    let text = case.request.text();
-    Err(Error::other(format!(
-        "{}: expected {}, read {said}, brute {again}",
-        text.escape_ascii(),
-        case.expected
-    )))
-}
-
-/// What brute force says of a text whose file is good and whose room is not in question.
-fn brute_answer(request: &Request) -> Option<String> {
-    let plan = read(&request.file).ok()?;
-    if request.call != READ_DIMACS || line(request).starts_with("refused 12") {
-        return None;
-    }
-    let given = [plan.variables, plan.clauses.len(), plan.literals()];
-    Some(match brute::rules::read(given, &request.text()) {
-        Ok(clauses) => format!("rules {} {}", clauses.len(), clauses.concat().len()),
-        Err(refusal) => format!("refused {} {}", refusal.number, refusal.value),
-    })
-}
-
-pub fn requests() -> Result<Vec<Request>> {
-    confirm()?;
-    Ok(cases().into_iter().map(|case| case.request).collect())
 }
