@@ -7,14 +7,15 @@ use native.Mathlib.Omega.{arith}
 use lib.ListN.{length}
 use Rattle.plan.specs.Tables.{edgesOf, atomsOf}
 
-pub edge-number : (l : List ℕ) → length (edgesOf l) ≡ length l / 3
+pub edge-number : (l : List ℕ) → length (edgesOf l) ≡ length l / 4
 unfolding edgesOf
 edge-number [] = refl
 edge-number (f ∷ []) = refl
 edge-number (f ∷ t ∷ []) = refl
-edge-number (f ∷ t ∷ v ∷ r) = omega (arith, edge-number r)
+edge-number (f ∷ t ∷ q ∷ []) = refl
+edge-number (f ∷ t ∷ q ∷ v ∷ r) = omega (arith, edge-number r)
 
-pub edge-place : (l : List ℕ) (k : ℕ) → k < length (edgesOf l) → k * 3 + 2 < length l
+pub edge-place : (l : List ℕ) (k : ℕ) → k < length (edgesOf l) → k * 4 + 3 < length l
 edge-place l k h = omega (arith, edge-number l)
 
 pub atom-number : (l : List ℕ) → length (atomsOf l) ≡ length l / 5

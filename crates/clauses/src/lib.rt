@@ -17,7 +17,7 @@ ghost use mathlib.Core.Path.{_≡_};
 ghost use Prim.Native.Nat.{_≤_, min};
 ghost use lib.ListN.{length};
 ghost use Rattle.plan.specs.Tables.{edgesOf, atomsOf, atomOf, planOf, Lent};
-ghost use Rattle.plan.specs.Written.{flat, levels, blockVariables, blockClauses, blockNumbers, blocks};
+ghost use Rattle.plan.specs.Written.{flat, hasBlock, firstUnwritten, levels, blockVariables, blockClauses, blockNumbers, blocks};
 ghost use Rattle.plan.specs.Front.{Room, Put};
 ghost use Rattle.clauses.specs.Rows.{LowBlocks};
 ghost use Rattle.encoding.specs.Counts.{InLimits};
@@ -55,7 +55,36 @@ pub fn levels_of(nodes: usize, atom: Atom) -> usize
     match kind {
         Kind::Reaches => most,
         Kind::Within => lesser(wide(atom.bound), most),
+        Kind::LengthAtMost => 0,
     }
+}
+
+// Whether a kind is written out.
+fn has_block(kind: Kind) -> bool
+    ensures { λ r. ⌜ r ≡ hasBlock kind ⌝ }
+{
+    match kind {
+        Kind::Reaches => true,
+        Kind::Within => true,
+        Kind::LengthAtMost => false,
+    }
+}
+
+// The place, from 0, of the first atom that is not written out; the count of the atoms where each is.
+pub fn first_unwritten(atoms: &[u16]) -> usize
+    ensures { λ r. ⌜ r ≡ firstUnwritten (atomsOf (now (atoms .entry))) ⌝ }
+{
+    let count = atom_count(atoms);
+    let mut k = 0;
+    while k < count {
+        let atom = atom_at(atoms, k);
+        let kind = atom.kind;
+        if !has_block(kind) {
+            return k;
+        }
+        k += 1;
+    }
+    k
 }
 
 // How many atoms an atom table holds.

@@ -1,3 +1,4 @@
 pub mod Lending
 pub mod Looking
+pub mod Giving
 pub mod Rounds

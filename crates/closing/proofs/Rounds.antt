@@ -8,17 +8,18 @@ use native.Mathlib.Omega.{arith}
 use lib.ListN.{length}
 use lib.IntN.{ℤ}
 use lib.Dec.{T, T-not, not-T}
-use Rattle.plan.specs.Meaning.{Edge, Atom, PlanFile, on, off, value, trueIn, under, over, edge}
+use Rattle.plan.specs.Meaning.{Edge, Atom, PlanFile, noEdge, on, off, value, trueIn, under, over, edge}
 use Rattle.plan.specs.Ranged.{Ranged}
 use Rattle.plan.specs.Closing.{Settles, unit, settled, Obeys}
 use Rattle.plan.specs.Search.{Assigned, Closes}
 use Rattle.plan.specs.Tables.{edgesOf}
+use Rattle.plan.proofs.Closing.{edges-long}
 use Rattle.plan.proofs.Exists.{step-done}
 use Rattle.plan.proofs.Tables.{edges-most}
 use Rattle.plan.proofs.Values.{true-on, true-off, value-at}
 use Rattle.plan.proofs.Lists.{at-mem}
 use Rattle.plan.proofs.Walks.{true-mono}
-use Rattle.walk.specs.Hopping.{Placed}
+use Rattle.walk.specs.Walking.{Placed}
 use Rattle.unit.specs.Onward.{Onward}
 use Rattle.unit.specs.Queue.{BeginsWith}
 use Rattle.unit.proofs.Steps.{onward-then, onward-fewer}
@@ -29,11 +30,11 @@ use Rattle.closing.specs.declared.Step.the-variants.{Set, Still}
 
 -- with the same edges the same is settled of an atom
 settles-same : (b : Bool) (φ : PlanFile) → Ranged φ → (v w : List ℤ) → SameEdges (φ .edges) v w → (A : Atom) → Settles φ (trueIn w) A b → Settles φ (trueIn v) A b
-settles-same true φ ok v w s A x = true-mono (φ .edges) (under (trueIn w)) (under (trueIn v)) A back x
+settles-same true φ ok v w s A x = true-mono (φ .edges) (edges-long φ ok) (under (trueIn w)) (under (trueIn v)) A back x
   where
     back : (e : Edge) → List·Memᴰ e (φ .edges) → T (trueIn w (on (e .variable))) → T (trueIn v (on (e .variable)))
     back e i t = true-on v (e .variable) .1 (sym (s e i) ∙ true-on w (e .variable) .0 t)
-settles-same false φ ok v w s A x = λ y. x (true-mono (φ .edges) (over (trueIn v)) (over (trueIn w)) A back y)
+settles-same false φ ok v w s A x = λ y. x (true-mono (φ .edges) (edges-long φ ok) (over (trueIn v)) (over (trueIn w)) A back y)
   where
     back : (e : Edge) → List·Memᴰ e (φ .edges) → T (not (trueIn v (off (e .variable)))) → T (not (trueIn w (off (e .variable))))
     back e i t =
@@ -44,9 +45,9 @@ settles-same false φ ok v w s A x = λ y. x (true-mono (φ .edges) (over (trueI
 abbrev pub SameAt : List ℕ → List ℤ → List ℤ → ℕ → Type 0
 SameAt es v w j = value w (edge (edgesOf es) j .variable) ≡ value v (edge (edgesOf es) j .variable)
 
-pub same-all : (es : List ℕ) (v w : List ℤ) (k : ℕ) → length es ≤ k * 3 + 2 → ((j : ℕ) → j < k → SameAt es v w j) → SameEdges (edgesOf es) v w
+pub same-all : (es : List ℕ) (v w : List ℤ) (k : ℕ) → length es ≤ k * 4 + 3 → ((j : ℕ) → j < k → SameAt es v w j) → SameEdges (edgesOf es) v w
 same-all es v w k h s e m =
-    let q = at-mem (edgesOf es) (record { from = 0; to = 0; variable = 0 }) e m in
+    let q = at-mem (edgesOf es) noEdge e m in
     subst (λ (d : Edge). value w (d .variable) ≡ value v (d .variable)) (sym (q .2)) (s (q .0) (omega (arith, q .1, edges-most es)))
 
 -- a copy has the same values

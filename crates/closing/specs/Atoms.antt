@@ -12,7 +12,7 @@ use Rattle.plan.specs.Ranged.{Ranged, EndsFit, maxNodes, maxVariables}
 use Rattle.plan.specs.Closing.{Settles}
 use Rattle.plan.specs.Search.{Assigned}
 use Rattle.plan.specs.Tables.{edgesOf, atomsOf}
-use Rattle.walk.specs.Hopping.{Settling}
+use Rattle.walk.specs.Walking.{bit, Settling}
 use Rattle.closing.specs.Closed.{Looks}
 use Rattle.closing.specs.declared.Step.{Step}
 use Rattle.closing.specs.declared.Step.the-variants.{Clash, Set, Still}
@@ -45,6 +45,17 @@ pub record Ready (es bs : List ℕ) (count : ℕ) (a : List ℤ) : Type 0 where
 abbrev pub Unsaid : List ℕ → Bool → List ℤ → ℕ → Type 0
 Unsaid bs b a j = T (trueIn a (literalOf b (atom (atomsOf bs) j .variable))) → ⊥
 
+-- The atoms of a set, by their numbers from 0, and those outside it.
+abbrev pub In : ℕ → ℕ → Type 0
+In set j = T (bit j set)
+
+abbrev pub Outside : ℕ → ℕ → Type 0
+Outside set j = T (bit j set) → ⊥
+
+-- Nothing is said yet of an atom outside the set.
+abbrev pub Due : ℕ → List ℕ → Bool → List ℤ → ℕ → Type 0
+Due set bs b a j = Outside set j × Unsaid bs b a j
+
 -- A literal that a rule gives is added to the assignment v, which is w then.
 abbrev pub Gets : ℤ → List ℤ → List ℤ → Step → Type 0
 Gets l v w Clash = (w ≡ v) × T (trueIn v (negℤ l))
@@ -58,6 +69,10 @@ Heard φ b v w A = Settles φ (trueIn v) A b → T (trueIn w (literalOf b (A .va
 abbrev pub AllHeard : PlanFile → Bool → List ℤ → List ℤ → Type 0
 AllHeard φ b v w = (A : Atom) → List·Memᴰ A (φ .atoms) → Heard φ b v w A
 
+-- The same of those numbers that have the property Q, for one verdict.
+abbrev pub HeardOf : (ℕ → Type 0) → PlanFile → Bool → List ℤ → List ℤ → Type 0
+HeardOf Q φ b v w = (j : ℕ) → j < length (φ .atoms) → Q j → Heard φ b v w (atom (φ .atoms) j)
+
 abbrev pub BothHeard : PlanFile → List ℤ → List ℤ → Type 0
 BothHeard φ v w = (b : Bool) → AllHeard φ b v w
 
@@ -66,9 +81,17 @@ abbrev pub Told : Bool → Atom → List ℕ → List ℤ → List ℤ → Step 
 Told b A d v w r = (φ : PlanFile) → Ranged φ → Assigned (φ .variables) v → List·Memᴰ A (φ .atoms)
     → (v₀ : List ℤ) → trueIn v₀ ⊆ trueIn v → Settling (φ .edges) v₀ A b d → Looks φ (Heard φ b v₀ w A) v w r
 
--- All atoms, for one verdict and for both.
-abbrev pub Looked : List ℕ → List ℕ → Bool → List ℤ → List ℤ → Step → Type 0
-Looked es bs b v w r = (φ : PlanFile) → HasTables es bs v φ → Looks φ (AllHeard φ b v w) v w r
+-- Those numbers that have the property Q, for one verdict and for both; then all atoms.
+abbrev pub Looked : (ℕ → Type 0) → List ℕ → List ℕ → Bool → List ℤ → List ℤ → Step → Type 0
+Looked Q es bs b v w r = (φ : PlanFile) → HasTables es bs v φ → Looks φ (HeardOf Q φ b v w) v w r
+
+abbrev pub LookedBoth : (ℕ → Type 0) → List ℕ → List ℕ → List ℤ → List ℤ → Step → Type 0
+LookedBoth Q es bs v w r = (φ : PlanFile) → HasTables es bs v φ → Looks φ ((b : Bool) → HeardOf Q φ b v w) v w r
 
 abbrev pub AllLooked : List ℕ → List ℕ → List ℤ → List ℤ → Step → Type 0
 AllLooked es bs v w r = (φ : PlanFile) → HasTables es bs v φ → Looks φ (BothHeard φ v w) v w r
+
+-- The atoms of a set give their literals for a verdict, which all of them deserve.
+abbrev pub AllGiven : List ℕ → List ℕ → ℕ → Bool → List ℤ → List ℤ → Step → Type 0
+AllGiven es bs set b v w r = (φ : PlanFile) → HasTables es bs v φ → ((j : ℕ) → In set j → Settles φ (trueIn v) (atom (atomsOf bs) j) b)
+    → Looks φ ((j : ℕ) → In set j → T (trueIn w (literalOf b (atom (atomsOf bs) j .variable)))) v w r

@@ -9,16 +9,19 @@ ghost use mathlib.Core.Path.{_≡_};
 ghost use Prim.Native.Nat.{_≤_};
 ghost use lib.ListN.{length};
 ghost use Rattle.plan.specs.Places.{First};
-ghost use Rattle.plan.specs.Ranged.{LiteralFits, maxVariables};
+ghost use mathlib.Core.Logic.{_↔_};
+ghost use Prim.Native.Nat.{ℕ, _+_, _*_, _<_};
+ghost use lib.Dec.{T};
+ghost use Rattle.plan.specs.Ranged.{LiteralFits, maxAtoms, maxVariables};
 ghost use Rattle.plan.specs.Search.{Assigned, CloseIs};
-ghost use Rattle.plan.specs.Meaning.{trueIn, literalOf};
-ghost use Rattle.plan.specs.Tables.{edgesOf, clausesOf, atomOf, planOf, Lent};
-ghost use Rattle.walk.specs.Hopping.{Placed};
+ghost use Rattle.plan.specs.Meaning.{atom, trueIn, literalOf};
+ghost use Rattle.plan.specs.Tables.{edgesOf, atomsOf, clausesOf, atomOf, planOf, Lent};
+ghost use Rattle.walk.specs.Walking.{Placed, Those, CountLengths};
 ghost use Rattle.index.specs.Places.{Indexed};
 ghost use Rattle.unit.specs.Clauses.{AllQuiet};
 ghost use Rattle.unit.specs.Queue.{BeginsWith, Known};
 ghost use Rattle.closing.specs.Closed.{closedOf, isClash, andThen};
-ghost use Rattle.closing.specs.Atoms.{AtomReady, AtomsReady, Ready, Unsaid, Gets, Told, Looked, AllLooked};
+ghost use Rattle.closing.specs.Atoms.{AtomReady, AtomsReady, Ready, Unsaid, In, Outside, Due, Gets, Told, Looked, LookedBoth, AllLooked, AllGiven};
 ghost use Rattle.closing.specs.Rounds.{Unchanged, Round};
 
 // What a look at the atoms, or a round, does to an assignment.
@@ -79,16 +82,37 @@ fn given(atom: Atom, holds: bool) -> i16
     plan::literal_of(plan::wide(atom.variable), holds)
 }
 
-// The first atom from `k` on whose literal is not there yet; `count` if there is none.
-fn next_to_say(atoms: &[u16], count: usize, k: usize, holds: bool, values: &[i8]) -> usize
+// Whether the literal of the atom numbered `at` is still to be said, and the atom is not one of `others`.
+fn is_due(atoms: &[u16], at: usize, others: u64, holds: bool, values: &[i8]) -> bool
+    requires { ⌜ at < 64 ⌝ }
+    requires { ⌜ at * 5 + 4 < length (now atoms) ⌝ }
+    requires { ⌜ AtomReady (now values) (atom (atomsOf (now atoms)) at) ⌝ }
+    ensures { λ r. ⌜ (T r ↔ Due others (now (atoms .entry)) holds (now (values .entry)) at) ⌝ }
+{
+    if walk::has(others, at) {
+        return false;
+    }
+    let atom = plan::atom_at(atoms, at);
+    !plan::is_set_to(values, atom.variable, holds)
+}
+
+// The first atom from `k` on, not one of `others`, whose literal is not there yet; `count` if there is none.
+fn next_to_say(
+    atoms: &[u16],
+    count: usize,
+    k: usize,
+    others: u64,
+    holds: bool,
+    values: &[i8],
+) -> usize
     requires { ⌜ AtomsReady (now atoms) count (now values) ⌝ }
+    requires { ⌜ count ≤ maxAtoms ⌝ }
     requires { ⌜ k ≤ count ⌝ }
-    ensures { λ r. ⌜ First (Unsaid (now (atoms .entry)) holds (now (values .entry))) k count r ⌝ }
+    ensures { λ r. ⌜ First (Due others (now (atoms .entry)) holds (now (values .entry))) k count r ⌝ }
 {
     let mut at = k;
     while at < count {
-        let atom = plan::atom_at(atoms, at);
-        if !plan::is_set_to(values, atom.variable, holds) {
+        if is_due(atoms, at, others, holds, values) {
             return at;
         }
         at += 1;
@@ -107,12 +131,21 @@ fn look_at(atom: Atom, distances: &Distances, holds: bool, values: &mut [i8]) ->
     give(values, given(atom, holds))
 }
 
-// Asks the atoms for a verdict. Atoms of one source behind one another share a walk; none is made for an atom whose literal is there.
-fn look_for(edges: &[u16], atoms: &[u16], count: usize, holds: bool, values: &mut [i8]) -> Step
+// Asks the atoms that count hops, which are those that are not in `lengths`, for a verdict. Atoms of one source behind one another share a walk; none
+// is made for an atom whose literal is there.
+fn look_for(
+    edges: &[u16],
+    atoms: &[u16],
+    count: usize,
+    lengths: u64,
+    holds: bool,
+    values: &mut [i8],
+) -> Step
     requires { ⌜ Ready (now edges) (now atoms) count (now values) ⌝ }
-    ensures { λ r. ⌜ Looked (now (edges .entry)) (now (atoms .entry)) holds (now (values .entry)) (now (values .exit)) r ⌝ }
+    requires { ⌜ CountLengths (atomsOf (now atoms)) count lengths ⌝ }
+    ensures { λ r. ⌜ Looked (Outside lengths) (now (edges .entry)) (now (atoms .entry)) holds (now (values .entry)) (now (values .exit)) r ⌝ }
 {
-    let mut at = next_to_say(atoms, count, 0, holds, values);
+    let mut at = next_to_say(atoms, count, 0, lengths, holds, values);
     if at == count {
         return Step::Still;
     }
@@ -123,7 +156,11 @@ fn look_for(edges: &[u16], atoms: &[u16], count: usize, holds: bool, values: &mu
     let mut step = Step::Still;
     while at < count {
         let atom = plan::atom_at(atoms, at);
+        let other = walk::has(lengths, at);
         at += 1;
+        if other {
+            continue;
+        }
         if atom.from != source {
             if plan::is_set_to(values, atom.variable, holds) {
                 continue;
@@ -145,16 +182,132 @@ fn look_for(edges: &[u16], atoms: &[u16], count: usize, holds: bool, values: &mu
     step
 }
 
-// Asks all atoms for both verdicts.
-fn look_at_atoms(edges: &[u16], atoms: &[u16], count: usize, values: &mut [i8]) -> Step
+// Asks the atoms that count hops for both verdicts.
+fn look_at_hops(edges: &[u16], atoms: &[u16], count: usize, lengths: u64, values: &mut [i8]) -> Step
     requires { ⌜ Ready (now edges) (now atoms) count (now values) ⌝ }
-    ensures { λ r. ⌜ AllLooked (now (edges .entry)) (now (atoms .entry)) (now (values .entry)) (now (values .exit)) r ⌝ }
+    requires { ⌜ CountLengths (atomsOf (now atoms)) count lengths ⌝ }
+    ensures { λ r. ⌜ LookedBoth (Outside lengths) (now (edges .entry)) (now (atoms .entry)) (now (values .entry)) (now (values .exit)) r ⌝ }
 {
-    let first = look_for(edges, atoms, count, true, values);
+    let first = look_for(edges, atoms, count, lengths, true, values);
     if is_clash(first) {
         return first;
     }
-    and_then(first, look_for(edges, atoms, count, false, values))
+    and_then(first, look_for(edges, atoms, count, lengths, false, values))
+}
+
+// Of a set of atoms, those whose literal is still to be said.
+fn to_say(atoms: &[u16], count: usize, set: u64, holds: bool, values: &[i8]) -> u64
+    requires { ⌜ AtomsReady (now atoms) count (now values) ⌝ }
+    requires { ⌜ CountLengths (atomsOf (now atoms)) count set ⌝ }
+    ensures { λ r. ⌜ Those (Unsaid (now (atoms .entry)) holds (now (values .entry))) set r ⌝ }
+{
+    let mut those = 0u64;
+    let mut rest = set;
+    while rest != 0 {
+        let k = u64::trailing_zeros(rest) as usize;
+        let atom = plan::atom_at(atoms, k);
+        if !plan::is_set_to(values, atom.variable, holds) {
+            those = those | (1u64 << k);
+        }
+        rest = rest & (rest - 1);
+    }
+    those
+}
+
+// Adds the literals of a set of atoms for a verdict.
+fn give_all(
+    edges: &[u16],
+    atoms: &[u16],
+    count: usize,
+    set: u64,
+    holds: bool,
+    values: &mut [i8],
+) -> Step
+    requires { ⌜ Ready (now edges) (now atoms) count (now values) ⌝ }
+    requires { ⌜ ((j : ℕ) → In set j → j < count) ⌝ }
+    ensures { λ r. ⌜ AllGiven (now (edges .entry)) (now (atoms .entry)) set holds (now (values .entry)) (now (values .exit)) r ⌝ }
+{
+    let mut step = Step::Still;
+    let mut rest = set;
+    while rest != 0 {
+        let atom = plan::atom_at(atoms, u64::trailing_zeros(rest) as usize);
+        let told = give(values, given(atom, holds));
+        match told {
+            Step::Clash => {
+                return Step::Clash;
+            }
+            Step::Set => {
+                step = Step::Set;
+            }
+            Step::Still => {}
+        }
+        rest = rest & (rest - 1);
+    }
+    step
+}
+
+// Asks the atoms that count lengths for a verdict. One walk for each source, and none for an atom whose literal is there.
+fn look_by_length(
+    edges: &[u16],
+    atoms: &[u16],
+    count: usize,
+    lengths: u64,
+    holds: bool,
+    values: &mut [i8],
+) -> Step
+    requires { ⌜ Ready (now edges) (now atoms) count (now values) ⌝ }
+    requires { ⌜ CountLengths (atomsOf (now atoms)) count lengths ⌝ }
+    ensures { λ r. ⌜ Looked (In lengths) (now (edges .entry)) (now (atoms .entry)) holds (now (values .entry)) (now (values .exit)) r ⌝ }
+{
+    let asked = to_say(atoms, count, lengths, holds, values);
+    let side = plan::settling_side(holds);
+    let truths = walk::true_by_length(edges, atoms, values, side, asked);
+    let told = if holds { truths } else { asked & !truths };
+    give_all(edges, atoms, count, told, holds, values)
+}
+
+// Asks the atoms that count lengths for both verdicts.
+fn look_at_lengths(
+    edges: &[u16],
+    atoms: &[u16],
+    count: usize,
+    lengths: u64,
+    values: &mut [i8],
+) -> Step
+    requires { ⌜ Ready (now edges) (now atoms) count (now values) ⌝ }
+    requires { ⌜ CountLengths (atomsOf (now atoms)) count lengths ⌝ }
+    ensures { λ r. ⌜ LookedBoth (In lengths) (now (edges .entry)) (now (atoms .entry)) (now (values .entry)) (now (values .exit)) r ⌝ }
+{
+    let first = look_by_length(edges, atoms, count, lengths, true, values);
+    if is_clash(first) {
+        return first;
+    }
+    and_then(
+        first,
+        look_by_length(edges, atoms, count, lengths, false, values),
+    )
+}
+
+// Asks all atoms for both verdicts. No atom that counts lengths: no length walk.
+fn look_at_atoms(
+    edges: &[u16],
+    atoms: &[u16],
+    count: usize,
+    values: &mut [i8],
+    lengths: u64,
+) -> Step
+    requires { ⌜ Ready (now edges) (now atoms) count (now values) ⌝ }
+    requires { ⌜ CountLengths (atomsOf (now atoms)) count lengths ⌝ }
+    ensures { λ r. ⌜ AllLooked (now (edges .entry)) (now (atoms .entry)) (now (values .entry)) (now (values .exit)) r ⌝ }
+{
+    let step = look_at_hops(edges, atoms, count, lengths, values);
+    if lengths == 0 {
+        return step;
+    }
+    if is_clash(step) {
+        return step;
+    }
+    and_then(step, look_at_lengths(edges, atoms, count, lengths, values))
 }
 
 fn copy_of(values: &[i8]) -> [i8; Assignment::MAX]
@@ -195,15 +348,17 @@ fn round(
     clauses: &[i16],
     places: &[u16; Index::TABLE],
     values: &mut [i8],
+    lengths: u64,
 ) -> Step
     requires { ⌜ Lent plan (now edges) (now atoms) (now clauses) ⌝ }
     requires { ⌜ Indexed (now clauses) (now places) ⌝ }
     requires { ⌜ Assigned (plan .variables) (now values) ⌝ }
     requires { ⌜ AllQuiet (trueIn (now values)) (clausesOf (now clauses)) ⌝ }
+    requires { ⌜ CountLengths (atomsOf (now atoms)) (plan .atoms) lengths ⌝ }
     ensures { λ r. ⌜ Round (planOf plan (now (edges .entry)) (now (atoms .entry)) (now (clauses .entry))) (now (values .entry)) (now (values .exit)) r ⌝ }
 {
     let before = copy_of(values);
-    let step = look_at_atoms(edges, atoms, plan.atoms, values);
+    let step = look_at_atoms(edges, atoms, plan.atoms, values, lengths);
     match step {
         Step::Clash => {
             return Step::Clash;
@@ -223,7 +378,7 @@ fn round(
 }
 
 // Closes a lent assignment by the index of the clauses. `tried` is the literal that was added to a closed set, or 0 where nothing is
-// known. True: a clash.
+// known; `lengths` are the atoms that count lengths. True: a clash.
 pub fn close_after(
     plan: Plan,
     edges: &[u16],
@@ -232,11 +387,13 @@ pub fn close_after(
     places: &[u16; Index::TABLE],
     tried: i16,
     values: &mut [i8],
+    lengths: u64,
 ) -> bool
     requires { ⌜ Lent plan (now edges) (now atoms) (now clauses) ⌝ }
     requires { ⌜ Indexed (now clauses) (now places) ⌝ }
     requires { ⌜ Assigned (plan .variables) (now values) ⌝ }
     requires { ⌜ Known (now clauses) (now values) tried ⌝ }
+    requires { ⌜ CountLengths (atomsOf (now atoms)) (plan .atoms) lengths ⌝ }
     ensures { λ _. ⌜ Assigned (plan .variables) (now (values .exit)) ⌝ }
     ensures { λ r. ⌜ CloseIs (planOf plan (now (edges .entry)) (now (atoms .entry)) (now (clauses .entry))) (now (values .entry)) (closedOf r (now (values .exit))) ⌝ }
 {
@@ -244,7 +401,7 @@ pub fn close_after(
         return true;
     }
     loop {
-        let step = round(plan, edges, atoms, clauses, places, values);
+        let step = round(plan, edges, atoms, clauses, places, values, lengths);
         match step {
             Step::Clash => {
                 return true;
@@ -266,5 +423,6 @@ pub fn close(plan: Plan, edges: &[u16], atoms: &[u16], clauses: &[i16], values: 
 {
     let index = index::index_of(clauses);
     let places = index.places;
-    close_after(plan, edges, atoms, clauses, &places, 0, values)
+    let lengths = walk::length_atoms(atoms, plan.atoms);
+    close_after(plan, edges, atoms, clauses, &places, 0, values, lengths)
 }

@@ -10,12 +10,13 @@ use lib.IntN.{ℤ, pos, negsuc}
 use lib.Dec.{T}
 use lib.ListN.{length, getD, length-append, List·getD-append}
 use lib.Seq.{ext-getD, getD-append-add}
-use Rattle.plan.specs.Meaning.{Atom, PlanFile, Graph, edge, on, value, isOn, isOff, trueIn, under, Full, IsRight, IsPlan}
+use Rattle.plan.specs.Meaning.{Atom, PlanFile, Graph, edge, oneHop, on, value, isOn, isOff, trueIn, under, Full, IsRight, IsPlan}
 use Rattle.plan.specs.Ranged.{LiteralFits, Ranged}
-use Rattle.plan.specs.Written.{levels, blocks, written, lastVariable, Satisfies, ExactlyOne}
+use Rattle.plan.specs.Written.{AllHaveBlocks, levels, blocks, written, lastVariable, Satisfies, ExactlyOne}
 use Rattle.plan.proofs.Bools.{tab, anyOf, allOf, any-some, some-any, all-each, each-all, T-same, tab-length, tab-at}
 use Rattle.plan.proofs.Lists.{le-or-lt}
-use Rattle.plan.proofs.Levels.{isTrue?, true-iff}
+use Rattle.plan.proofs.Closing.{edges-long}
+use Rattle.plan.proofs.Levels.{reached, block-iff}
 use Rattle.encoding.proofs.Block.{Values, signed, satisfied, split}
 use Rattle.encoding.proofs.Blocks.{valueOf, Fixed, RightAt, blocks-iff}
 use Rattle.encoding.proofs.Literals.{All, Fit, edge-ends, variables-first, own-fits, written-fits}
@@ -91,7 +92,7 @@ module _ (variables : ℕ) (a b : List ℤ) (long : length a ≡ variables) wher
           subst (λ x. (x ≡ pos 1) ⊎ (x ≡ negsuc 0)) (sym (back-at (i - variables)) ∙ ap (λ j. getD (a ++ b) j (pos 0)) e) (fb .each (i - variables) (omega arith))
       place i l (inr k) = subst (λ x. (x ≡ pos 1) ⊎ (x ≡ negsuc 0)) (sym (List·getD-append a b (pos 0) i (omega arith))) (fa .each i k)
 
-module _ (φ : PlanFile) (r : Ranged φ) where
+module _ (φ : PlanFile) (r : Ranged φ) (all : AllHaveBlocks (φ .atoms)) where
   abbrev n : ℕ
   n = φ .nodes
 
@@ -112,12 +113,11 @@ module _ (φ : PlanFile) (r : Ranged φ) where
     )
 
     right-iff : (A : Atom) → List·Memᴰ A (φ .atoms) → RightAt n (φ .edges) f (values (a ++ b)) A ↔ IsRight φ a A
-    unfolding isTrue?
     right-iff A m =
-        let t = true-iff n (φ .edges) f A (λ e k. r .edge e k .to-in) (r .atom A m .from-in) in
+        let t = block-iff n (φ .edges) f A (edges-long φ r) (λ e k. r .edge e k .to-in) (r .atom A m .from-in) (all A m) in
         let x = front (φ .variables) a b (fa .long) (on (A .variable)) (literal A m) in (
           λ e. let z = sym x ∙ e in (λ h. t .0 (subst T z h), λ h. subst T (sym z) (t .1 h)),
-          λ i. x ∙ T-same (trueIn a (on (A .variable))) (isTrue? n (φ .edges) f A) (λ h. t .1 (i .0 h)) (λ h. i .1 (t .0 h)),
+          λ i. x ∙ T-same (trueIn a (on (A .variable))) (getD (reached oneHop n (φ .edges) f (A .from) (levels n A)) (A .to) false) (λ h. t .1 (i .0 h)) (λ h. i .1 (t .0 h)),
         )
 
     -- a plan, with the one value for each new variable

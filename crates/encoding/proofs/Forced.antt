@@ -9,11 +9,11 @@ use native.Mathlib.Omega.{arith}
 use native.Mathlib.Nat.{div-add-mod', mod-lt, mul-add-div-right, mul-add-mod-self-right, mod-eq-of-lt, div-eq-of-lt, mul-le-mul-right}
 use lib.Dec.{T, eqb, eqb→eq, eqb-refl, ltb, lt→ltb, ltb→lt}
 use lib.ListN.{length, getD}
-use Rattle.plan.specs.Meaning.{Edge, Graph, edge}
+use Rattle.plan.specs.Meaning.{Edge, Graph, noEdge, edge, oneHop}
 use Rattle.plan.specs.Written.{R, U, blockVariables}
 use Rattle.plan.proofs.Bools.{anyOf, T-same, any-some, some-any, tab-at}
 use Rattle.plan.proofs.Lists.{le-or-lt, mem-at, at-mem}
-use Rattle.plan.proofs.Levels.{next, reached}
+use Rattle.plan.proofs.Levels.{next, upTo, reached}
 use Rattle.encoding.proofs.Each.{some, some-same, some-iff}
 use Rattle.encoding.proofs.Block.{Values, Says}
 
@@ -42,7 +42,7 @@ any-numbered test es =
     T-same (anyOf test es) (some (length es) (λ k. test (edge es k)))
     (λ h.
     let q = any-some test es h in
-    let r = at-mem es (record { from = 0; to = 0; variable = 0 }) (q .0) (q .1) in
+    let r = at-mem es noEdge (q .0) (q .1) in
     some-iff (length es) (λ k. test (edge es k)) .1 (r .0, r .1, subst (λ e. T (test e)) (r .2) (q .2)))
     (λ h. let q = some-iff (length es) (λ k. test (edge es k)) .0 h in some-any test es (edge es (q .0)) (mem-at es _ (q .0) (q .1)) (q .2))
 
@@ -52,18 +52,18 @@ module _ (n : ℕ) (es : List Edge) (f : Graph) (s : ℕ) where
 
   -- node w is reached with i edges
   abbrev pub at : ℕ → ℕ → Bool
-  at i w = getD (reached n es f s i) w false
+  at i w = getD (reached oneHop n es f s i) w false
 
   -- edge k is on, and its start is reached with i edges
   abbrev pub by : ℕ → ℕ → Bool
   by i k = f (edge es k) && at i (edge es k .from)
 
   at-zero : (w : ℕ) → w < n → at 0 w ≡ eqb w s
-  unfolding reached
+  unfolding upTo
   at-zero w l = tab-at n (λ x. eqb s x) false w l ∙ eqb-sym s w
 
   at-suc : (i w : ℕ) → w < n → at (suc i) w ≡ (at i w || some (length es) (λ k. eqb w (edge es k .to) && by i k))
-  unfolding reached next
+  unfolding upTo next
   at-suc i w l =
       tab-at n (λ x. at i x || anyOf (λ e. f e && (eqb (e .to) x && at i (e .from))) es) false w l
       ∙ ap (λ b. at i w || b)

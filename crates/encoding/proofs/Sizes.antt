@@ -11,7 +11,7 @@ use lib.IntN.{ℤ, pos}
 use lib.Dec.{T, eqb, eqb→eq, eqb-refl}
 use lib.ListN.{length, length-append}
 use Rattle.plan.specs.declared.Kind.{Kind}
-use Rattle.plan.specs.declared.Kind.the-variants.{Reaches, Within}
+use Rattle.plan.specs.declared.Kind.the-variants.{Reaches, Within, LengthAtMost}
 use Rattle.plan.specs.Meaning.{Edge, Atom, PlanFile, edge, on, off}
 use Rattle.plan.specs.Ranged.{maxNodes, maxEdges, maxAtoms, literals, Ranged}
 use Rattle.plan.specs.Written.{each, flat, R, U, into, startClauses, edgeClauses, nodeClauses, levelClauses, endClauses, block, levelsOf, levels, blockVariables, blockClauses, blockNumbers, atomBlock, after, blocks, last, written, lastVariable}
@@ -199,6 +199,7 @@ levels-le n A = go (A .kind)
     go : (kind : Kind) → levelsOf n kind (A .bound) ≤ n - 1
     go Reaches = omega arith
     go Within = omega arith
+    go LengthAtMost = omega arith
 
 total-le : (size : ℕ → ℕ) (n most : ℕ) → ((L : ℕ) → L ≤ n - 1 → size L ≤ most) → (As : List Atom) → total size n As ≤ length As * most
 unfolding total

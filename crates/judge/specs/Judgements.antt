@@ -1,15 +1,16 @@
 -- The answer of judging as the document's judgement, and what the inner functions promise one another.
 -- Assumes nothing.
+use mathlib.Core.Path.{_≡_}
 use mathlib.Core.Logic.{_↔_}
 use mathlib.Core.Bool.{Bool}
 use mathlib.Core.List.{List, List·Memᴰ}
 use Prim.Native.Nat.{ℕ, _≤_, _<_}
 use lib.IntN.{ℤ}
 use lib.Dec.{T}
-use Rattle.plan.specs.Meaning.{Edge, Atom, costOf, IsTrue, on, trueIn, under}
+use Rattle.plan.specs.Meaning.{Edge, Atom, IsTrue, on, trueIn, under}
 use Rattle.plan.specs.Judging.{FirstWithout, plan, no-true, wrong}
 use Rattle.plan.specs.Judging as judging
-use Rattle.walk.specs.Hopping.{DistanceTable}
+use Rattle.walk.specs.Walking.{bit, Truth}
 use Rattle.judge.specs.declared.Judgement.{Judgement}
 use Rattle.judge.specs.declared.Judgement.the-variants.{Plan, Clause, Atom as WrongAtom}
 use Rattle.judge.specs.declared.First.{First}
@@ -30,9 +31,14 @@ FirstIs P xs (At n) = FirstWithout P xs n
 abbrev pub RightIn : List Edge → List ℤ → Atom → Type 0
 RightIn es a A = T (trueIn a (on (A .variable))) ↔ IsTrue es (under (trueIn a)) A
 
--- The same, told from the distances from the atom's source.
-abbrev pub RightBy : List ℤ → Atom → List ℕ → Bool → Type 0
-RightBy a A d r = (es : List Edge) → DistanceTable (costOf (A .kind)) es (under (trueIn a)) (A .from) d → T r ↔ RightIn es a A
+-- The same, told from the atom's truth.
+abbrev pub RightBy : List ℤ → Atom → Bool → Bool → Type 0
+RightBy a A truth r = (es : List Edge) → T truth ↔ IsTrue es (under (trueIn a)) A → T r ↔ RightIn es a A
+
+-- An atom's truth: of one that counts lengths, whether it is in the set of those that are true; of another, by the distances from its source.
+pub record TruthOf (A : Atom) (number lengths long : ℕ) (d : List ℕ) (r : Bool) : Type 0 where
+  pub by-length : T (bit number lengths) → r ≡ bit number long
+  pub by-hops : (T (bit number lengths) → ⊥) → Truth A d r
 
 -- Atoms between nodes below 64, over so many variables.
 abbrev pub AtomsFit : ℕ → List Atom → Type 0

@@ -9,13 +9,13 @@ ghost use Prim.Native.Nat.{_*_, _<_, _≤_};
 ghost use lib.Dec.{T};
 ghost use lib.ListN.{length};
 ghost use Rattle.plan.specs.Meaning.{Full, HasTrue};
-ghost use Rattle.plan.specs.Ranged.{maxVariables, LiteralsFit};
+ghost use Rattle.plan.specs.Ranged.{maxVariables, maxEdges, maxAtoms, LiteralsFit};
 ghost use Rattle.plan.specs.Search.{Assigned};
 ghost use Rattle.plan.specs.Judging.{Judged};
 ghost use Rattle.plan.specs.Tables.{edgesOf, atomsOf, atomOf, clausesOf, planOf, Lent};
 ghost use Rattle.plan.specs.ClauseTable.{Table};
-ghost use Rattle.walk.specs.Hopping.{Inside, Placed, Walked};
-ghost use Rattle.judge.specs.Judgements.{judgementOf, FirstIs, RightIn, RightBy, AtomsFit};
+ghost use Rattle.walk.specs.Walking.{Inside, Placed, Walked};
+ghost use Rattle.judge.specs.Judgements.{judgementOf, FirstIs, RightIn, RightBy, TruthOf, AtomsFit};
 
 // What an assignment is: a plan, or the number of the first clause without a true literal, or of the first atom whose variable is wrong.
 pub enum Judgement {
@@ -69,14 +69,25 @@ fn first_untrue(assignment: &[i8], clauses: &[i16]) -> First
     First::Nowhere
 }
 
-// Whether an atom's variable equals its truth, by the distances from its source.
-fn is_right(atom: Atom, distances: &Distances, assignment: &[i8]) -> bool
+// The truth of the atom numbered `number`, from 0: of one in `lengths`, those that count lengths, whether it is in `long`, those of them that are true;
+// of another, by the distances from its source.
+fn truth_of(atom: Atom, number: usize, lengths: u64, long: u64, distances: &Distances) -> bool
     requires { ⌜ atom .to < 64 ⌝ }
+    requires { ⌜ number < 64 ⌝ }
+    ensures { λ r. ⌜ TruthOf (atomOf atom) number lengths long (now (distances .entry)) r ⌝ }
+{
+    if walk::has(lengths, number) {
+        return walk::has(long, number);
+    }
+    walk::is_true(atom, distances)
+}
+
+// Whether an atom's variable equals its truth.
+fn is_right(atom: Atom, truth: bool, assignment: &[i8]) -> bool
     requires { ⌜ 1 ≤ atom .variable ⌝ }
     requires { ⌜ atom .variable ≤ length (now assignment) ⌝ }
-    ensures { λ r. ⌜ RightBy (now (assignment .entry)) (atomOf atom) (now (distances .entry)) r ⌝ }
+    ensures { λ r. ⌜ RightBy (now (assignment .entry)) (atomOf atom) truth r ⌝ }
 {
-    let truth = walk::is_true(atom, distances);
     if plan::is_set_to(assignment, atom.variable, true) {
         return truth;
     }
@@ -100,20 +111,27 @@ fn first_wrong(edges: &[u16], atoms: &[u16], count: usize, assignment: &[i8]) ->
     requires { ⌜ Inside (edgesOf (now edges)) ⌝ }
     requires { ⌜ Placed (edgesOf (now edges)) (length (now assignment)) ⌝ }
     requires { ⌜ AtomsFit (length (now assignment)) (atomsOf (now atoms)) ⌝ }
+    requires { ⌜ length (edgesOf (now edges)) ≤ maxEdges ⌝ }
+    requires { ⌜ count ≤ maxAtoms ⌝ }
     requires { ⌜ length (now atoms) ≡ count * 5 ⌝ }
     ensures { λ r. ⌜ FirstIs (RightIn (edgesOf (now (edges .entry))) (now (assignment .entry))) (atomsOf (now (atoms .entry))) r ⌝ }
 {
+    let lengths = walk::length_atoms(atoms, count);
+    let long = walk::true_by_length(edges, atoms, assignment, Side::Under, lengths);
     let neighbours = walk::neighbours(edges, assignment, Side::Under);
     let mut source = 0;
     let mut distances = walk::walk(&neighbours, source);
     let mut number = 0;
     while number < count {
         let atom = plan::atom_at(atoms, number);
-        let from = plan::wide(atom.from);
-        distances = distances_from(&neighbours, distances, source, from);
-        source = from;
+        if !walk::has(lengths, number) {
+            let from = plan::wide(atom.from);
+            distances = distances_from(&neighbours, distances, source, from);
+            source = from;
+        }
+        let truth = truth_of(atom, number, lengths, long, &distances);
         number += 1;
-        if !is_right(atom, &distances, assignment) {
+        if !is_right(atom, truth, assignment) {
             return First::At(number);
         }
     }

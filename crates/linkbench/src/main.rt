@@ -76,6 +76,8 @@ fn done(
         6 => work::search(plan, edges, atoms, clauses, repetitions),
         7 => work::print(plan, edges, atoms, clauses, repetitions),
         8 => work::rules(plan, edges, atoms, clauses, repetitions),
+        9 => work::fill_chains(plan, edges, atoms, clauses, repetitions),
+        10 => work::length_walk(plan, edges, atoms, clauses, repetitions),
         _ => 0,
     }
 }

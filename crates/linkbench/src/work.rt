@@ -4,7 +4,8 @@ ghost use Prim.Native.Nat.{_<_, _≤_};
 ghost use lib.ListN.{length};
 ghost use Rattle.plan.specs.ClauseTable.{maxTable};
 ghost use Rattle.plan.specs.Ranged.{maxVariables};
-ghost use Rattle.plan.specs.Tables.{Lent};
+ghost use Rattle.plan.specs.Tables.{edgesOf, Lent};
+ghost use Rattle.walk.specs.Walking.{Chains};
 use clauses::Writing;
 use dimacs::RulesAnswer;
 use listing::Printing;
@@ -16,6 +17,7 @@ use plan::Plan;
 use plan::Side;
 use search::Found;
 use std::num::wrapping_add_u64;
+use walk::Chains;
 
 // Room for the written clauses.
 const ROOM: usize = 500000;
@@ -145,6 +147,61 @@ pub fn walk(plan: Plan, edges: &[u16], atoms: &[u16], clauses: &[i16], repetitio
     let mut left = repetitions;
     while left > 0 {
         let distances = walk::walk(&sets, source);
+        source = following(source, plan);
+        sum = wrapping_add_u64(sum, walk::distance(&distances, source));
+        left -= 1;
+    }
+    sum
+}
+
+// Fills the chains of the edges of the over graph of all open each time.
+pub fn fill_chains(
+    plan: Plan,
+    edges: &[u16],
+    atoms: &[u16],
+    clauses: &[i16],
+    repetitions: u32,
+) -> u64
+    requires { ⌜ Lent plan (now edges) (now atoms) (now clauses) ⌝ }
+{
+    let mut sum = 0u64;
+    let mut source = 0;
+    let mut left = repetitions;
+    while left > 0 {
+        let chains = chains_of(plan, edges, atoms, clauses);
+        sum = wrapping_add_u64(sum, chains[source] as u64);
+        source = following(source, plan);
+        left -= 1;
+    }
+    sum
+}
+
+fn chains_of(plan: Plan, edges: &[u16], atoms: &[u16], clauses: &[i16]) -> Chains
+    requires { ⌜ Lent plan (now edges) (now atoms) (now clauses) ⌝ }
+    ensures { λ r. ⌜ Chains (edgesOf (now (edges .entry))) r ⌝ }
+{
+    let open = Assignment::all_open();
+    let values = open.values;
+    let n = plan::wide(plan.variables);
+    walk::chains(edges, &values[..n], Side::Over)
+}
+
+// Walks by length from each node in turn, in the over graph of all open, whose chains are filled once.
+pub fn length_walk(
+    plan: Plan,
+    edges: &[u16],
+    atoms: &[u16],
+    clauses: &[i16],
+    repetitions: u32,
+) -> u64
+    requires { ⌜ Lent plan (now edges) (now atoms) (now clauses) ⌝ }
+{
+    let chains = chains_of(plan, edges, atoms, clauses);
+    let mut sum = 0u64;
+    let mut source = 0;
+    let mut left = repetitions;
+    while left > 0 {
+        let distances = walk::length_walk(edges, &chains, source);
         source = following(source, plan);
         sum = wrapping_add_u64(sum, walk::distance(&distances, source));
         left -= 1;

@@ -8,6 +8,7 @@ use plan::Atom;
 use plan::Clause;
 use plan::Edge;
 use plan::Plan;
+use plan::Refusal;
 use reader::ReadAnswer;
 use text::INPUT;
 
@@ -36,6 +37,11 @@ fn report(file: &[u8]) {
 fn printed(plan: Plan, edges: &[u16], atoms: &[u16], clauses: &[i16])
     requires { ⌜ Lent plan (now edges) (now atoms) (now clauses) ⌝ }
 {
+    let unwritten = clauses::first_unwritten(atoms);
+    if unwritten != plan.atoms {
+        text::refuse(Refusal::NoBlock(unwritten + 1));
+        return;
+    }
     let mut out = [0u8; PART];
     parts(plan, edges, atoms, clauses, &mut out);
 }

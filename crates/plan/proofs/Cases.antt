@@ -1,4 +1,4 @@
--- The document's proved cases P1 to P10, as one table: each is a test that antt computes, and one law turns a passed test into what
+-- The document's proved cases P1 to P10, and cases of edges with a length, as one table: each is a test that antt computes, and one law turns a passed test into what
 -- the definitions say.
 -- Assumes nothing.
 use mathlib.Core.Path.{_≡_, refl, subst, ap, ap₂}
@@ -11,15 +11,15 @@ use lib.ListN.{length, getD}
 use lib.IntN.{ℤ, pos, negsuc, natAbs}
 use lib.Dec.{T, T-not, eqb, eqb→eq, eqb-refl, ltb, ltb→lt, leb, leb→le}
 use Rattle.plan.specs.Meaning.{Edge, Atom, PlanFile, edge, IsTrue, isOn, isOff, value, trueIn, add, under, Full}
-use Rattle.plan.specs.Ranged.{maxNodes, maxVariables, maxEdges, maxAtoms, maxBound, maxClauses, maxLiterals, literals, EndsFit, BoundFits, Ranged}
-use Rattle.plan.specs.Written.{levels}
+use Rattle.plan.specs.Ranged.{maxNodes, maxVariables, maxEdges, maxLength, maxAtoms, maxBound, maxLengthBound, maxClauses, maxLiterals, literals, EndsFit, BoundFits, Ranged}
 use Rattle.plan.specs.declared.Kind.{Kind}
-use Rattle.plan.specs.declared.Kind.the-variants.{Reaches, Within}
+use Rattle.plan.specs.declared.Kind.the-variants.{Reaches, Within, LengthAtMost}
 use Rattle.plan.specs.Search.{Assigned, CloseIs, Outcome, nothing, found, Tree}
 use Rattle.plan.specs.Judging.{Judgement, plan, no-true, wrong, Judged}
 use Rattle.plan.specs.Reason.{Reason, holds, fails, neither, ReasonIs}
 use Rattle.plan.proofs.Bools.{allOf, and-left, and-right, or-cases, all-each}
-use Rattle.plan.proofs.Levels.{next, reached, isTrue?, true-iff}
+use Rattle.plan.proofs.Levels.{next, upTo, isTrue?}
+use Rattle.plan.proofs.Closing.{true-in}
 use Rattle.plan.proofs.Add.{on-one, off-one}
 use Rattle.plan.proofs.Compute.{eqℤ, close, search}
 use Rattle.plan.proofs.Exists.{eqℤ→eq, closing-is, searching-is}
@@ -43,15 +43,17 @@ ends-fit n m f t v h =
     record { from-in = ltb→lt f n (and-left (ltb f n) _ h); to-in = ltb→lt t n (and-left (ltb t n) _ h1); low = h2 .0; high = h2 .1 }
 
 abbrev edgeFits? : PlanFile → Edge → Bool
-edgeFits? φ e = ends? (φ .nodes) (φ .variables) (e .from) (e .to) (e .variable)
+edgeFits? φ e = ends? (φ .nodes) (φ .variables) (e .from) (e .to) (e .variable) && between 1 (e .length) maxLength
 
 abbrev bound? : Kind → ℕ → Bool
 bound? Reaches d = eqb d 0
 bound? Within d = leb d maxBound
+bound? LengthAtMost d = leb d maxLengthBound
 
 bound-is : (kind : Kind) (d : ℕ) → T (bound? kind d) → BoundFits kind d
 bound-is Reaches d t = eqb→eq d 0 t
 bound-is Within d t = leb→le d maxBound t
+bound-is LengthAtMost d t = leb→le d maxLengthBound t
 
 abbrev atomFits? : PlanFile → Atom → Bool
 atomFits? φ A = ends? (φ .nodes) (φ .variables) (A .from) (A .to) (A .variable) && (bound? (A .kind) (A .bound) && allOf (λ e. not (eqb (e .variable) (A .variable))) (φ .edges))
@@ -78,7 +80,7 @@ ranged φ t =
     let v = between-is 1 (φ .variables) maxVariables (and-left (between 1 (φ .variables) maxVariables) _ c1) in
     let t1 = and-right (counts? φ) _ t in
     let t2 = and-right (allOf (edgeFits? φ) (φ .edges)) _ t1 in
-    let es = and-left (allOf (edgeFits? φ) (φ .edges)) _ t1 in
+    let es = all-each (edgeFits? φ) (φ .edges) (and-left (allOf (edgeFits? φ) (φ .edges)) _ t1) in
     let bs = all-each (atomFits? φ) (φ .atoms) (and-left (allOf (atomFits? φ) (φ .atoms)) _ t2) in
     let cs = all-each (clauseFits? φ) (φ .clauses) (and-right (allOf (atomFits? φ) (φ .atoms)) _ t2) in
     record {
@@ -90,7 +92,10 @@ ranged φ t =
       atoms = leb→le (length (φ .atoms)) maxAtoms (and-left (leb (length (φ .atoms)) maxAtoms) _ c3);
       clauses = leb→le (length (φ .clauses)) maxClauses (and-left (leb (length (φ .clauses)) maxClauses) _ c4);
       literals = leb→le (literals (φ .clauses)) maxLiterals (and-right (leb (length (φ .clauses)) maxClauses) _ c4);
-      edge = λ e m. ends-fit (φ .nodes) (φ .variables) (e .from) (e .to) (e .variable) (all-each (edgeFits? φ) (φ .edges) es e m);
+      edge = λ e m. ends-fit (φ .nodes) (φ .variables) (e .from) (e .to) (e .variable) (and-left (ends? (φ .nodes) (φ .variables) (e .from) (e .to) (e .variable)) _ (es e m));
+      long = λ e m.
+          let h = between-is 1 (e .length) maxLength (and-right (ends? (φ .nodes) (φ .variables) (e .from) (e .to) (e .variable)) _ (es e m)) in
+          record { low = h .0; high = h .1 };
       atom = λ A m. ends-fit (φ .nodes) (φ .variables) (A .from) (A .to) (A .variable) (and-left (ends? (φ .nodes) (φ .variables) (A .from) (A .to) (A .variable)) _ (bs A m));
       bound = λ A m. bound-is (A .kind) (A .bound) (and-left (bound? (A .kind) (A .bound)) _ (and-right (ends? (φ .nodes) (φ .variables) (A .from) (A .to) (A .variable)) _ (bs A m)));
       literal = λ C m l k.
@@ -236,8 +241,7 @@ passes (finds φ a o b) = ranged? φ && (assigned? (φ .variables) a && (eqOutco
 
 fits-iff : (φ : PlanFile) (a : List ℤ) (A : Atom) → T (atomFits φ A) → T (isTrue? (φ .nodes) (φ .edges) (under (trueIn a)) A) ↔ IsTrue (φ .edges) (under (trueIn a)) A
 fits-iff φ a A t =
-    true-iff (φ .nodes) (φ .edges) (under (trueIn a)) A (λ e m. ranged φ (and-left (ranged? φ) _ t) .edge e m .to-in)
-    (ltb→lt (A .from) (φ .nodes) (and-right (ranged? φ) _ t))
+    true-in φ (ranged φ (and-left (ranged? φ) _ t)) (under (trueIn a)) A (ltb→lt (A .from) (φ .nodes) (and-right (ranged? φ) _ t))
 
 -- a case that passes is so
 pub passed : (c : Case) → T (passes c) → Says c
@@ -264,14 +268,20 @@ passed (finds φ a o b) t =
     (searching-is φ (ranged φ (and-left (ranged? φ) _ t)) a (assigned-is (φ .variables) a (and-left (assigned? (φ .variables) a) _ u))))
 
 -- the files
+abbrev long : ℕ → ℕ → ℕ → ℕ → Edge
+long f t l v = record { from = f; to = t; length = l; variable = v }
+
 abbrev pub link : ℕ → ℕ → ℕ → Edge
-link f t v = record { from = f; to = t; variable = v }
+link f t v = long f t 1 v
 
 abbrev pub reaches : ℕ → ℕ → ℕ → Atom
 reaches f t v = record { kind = Reaches; from = f; to = t; bound = 0; variable = v }
 
 abbrev pub within : ℕ → ℕ → ℕ → ℕ → Atom
 within d f t v = record { kind = Within; from = f; to = t; bound = d; variable = v }
+
+abbrev lasting : ℕ → ℕ → ℕ → ℕ → Atom
+lasting d f t v = record { kind = LengthAtMost; from = f; to = t; bound = d; variable = v }
 
 lone : PlanFile
 lone = record { nodes = 1; variables = 1; edges = []; atoms = reaches 0 0 1 ∷ []; clauses = [] }
@@ -298,6 +308,20 @@ never = record {
   clauses = (pos 5 ∷ []) ∷ [] ∷ (negsuc 3 ∷ []) ∷ [];
 }
 
+-- two hops round the lake outlast four downtown: to node 5 it is 9 + 9 over node 1, and 4 + 4 + 4 + 4 over 2, 3 and 4
+lake : PlanFile
+lake = record {
+  nodes = 6;
+  variables = 8;
+  edges = long 0 1 9 1 ∷ long 1 5 9 2 ∷ long 0 2 4 3 ∷ long 2 3 4 4 ∷ long 3 4 4 5 ∷ long 4 5 4 6 ∷ [];
+  atoms = lasting 16 0 5 7 ∷ within 2 0 5 8 ∷ [];
+  clauses = [];
+}
+
+-- node 2 is 4 away over node 1, and 4 by the edge that leads there at once and has the last number
+tie : PlanFile
+tie = record { nodes = 3; variables = 5; edges = long 1 2 2 1 ∷ long 0 1 2 2 ∷ long 0 2 4 3 ∷ []; atoms = lasting 4 0 2 4 ∷ within 2 0 2 5 ∷ []; clauses = [] }
+
 y : ℤ
 y = pos 1
 
@@ -307,7 +331,7 @@ n = negsuc 0
 o : ℤ
 o = pos 0
 
--- P1 to P10 in order (P4 has two lines), then the sample's plan with its count B, then what the empty clause makes of it
+-- P1 to P10 in order (P4 has two lines), then the sample's plan with its count B, then what the empty clause makes of it; then lengths
 pub table : List Case
 table =
     is-true lone (o ∷ []) (reaches 0 0 1)
@@ -325,8 +349,30 @@ table =
     ∷ judges never (y ∷ y ∷ n ∷ n ∷ y ∷ []) (no-true 2)
     ∷ closes never (o ∷ o ∷ o ∷ o ∷ o ∷ []) nothing
     ∷ finds never (o ∷ o ∷ o ∷ o ∷ o ∷ []) nothing 0
+    -- the way downtown is the shorter one, and the way round the lake has fewer hops
+    ∷ is-true lake (y ∷ y ∷ y ∷ y ∷ y ∷ y ∷ y ∷ y ∷ []) (lasting 16 0 5 7)
+    ∷ is-false lake (y ∷ y ∷ y ∷ y ∷ y ∷ y ∷ y ∷ y ∷ []) (lasting 15 0 5 7)
+    ∷ is-true lake (y ∷ y ∷ y ∷ y ∷ y ∷ y ∷ y ∷ y ∷ []) (within 2 0 5 8)
+    -- a node is 0 from itself; and where there is no path no bound helps (255, since of the most that a file may ask, 65,535, antt would compute
+    -- as many levels)
+    ∷ is-true lake (n ∷ n ∷ n ∷ n ∷ n ∷ n ∷ n ∷ n ∷ []) (lasting 0 0 0 7)
+    ∷ is-false lake (y ∷ y ∷ y ∷ y ∷ y ∷ y ∷ y ∷ y ∷ []) (lasting 255 5 0 7)
+    -- downtown is shut at its first edge: what is left takes 18
+    ∷ is-false lake (y ∷ y ∷ n ∷ y ∷ y ∷ y ∷ n ∷ y ∷ []) (lasting 17 0 5 7)
+    ∷ explains lake (y ∷ y ∷ n ∷ o ∷ o ∷ o ∷ o ∷ o ∷ []) (lasting 17 0 5 7) (fails (negsuc 6 ∷ pos 3 ∷ []))
+    ∷ explains lake (y ∷ y ∷ n ∷ o ∷ o ∷ o ∷ o ∷ o ∷ []) (lasting 18 0 5 7) (holds (pos 7 ∷ negsuc 0 ∷ negsuc 1 ∷ []))
+    ∷ closes lake (y ∷ y ∷ n ∷ o ∷ o ∷ o ∷ o ∷ o ∷ []) (found (y ∷ y ∷ n ∷ o ∷ o ∷ o ∷ n ∷ y ∷ []))
+    -- an off edge that starts 9 away counts where the bound is 10, and not where it is 9
+    ∷ explains lake (y ∷ n ∷ n ∷ o ∷ o ∷ o ∷ o ∷ o ∷ []) (lasting 10 0 5 7) (fails (negsuc 6 ∷ pos 2 ∷ pos 3 ∷ []))
+    ∷ explains lake (y ∷ n ∷ n ∷ o ∷ o ∷ o ∷ o ∷ o ∷ []) (lasting 9 0 5 7) (fails (negsuc 6 ∷ pos 3 ∷ []))
+    -- of two shortest ways by length the smallest edge number at node 2 decides; by hops there is one
+    ∷ explains tie (y ∷ y ∷ y ∷ o ∷ o ∷ []) (lasting 4 0 2 4) (holds (pos 4 ∷ negsuc 0 ∷ negsuc 1 ∷ []))
+    ∷ explains tie (y ∷ y ∷ y ∷ o ∷ o ∷ []) (within 2 0 2 5) (holds (pos 5 ∷ negsuc 2 ∷ []))
+    -- an off edge that would be no shorter is no premise, and it is one where it would save a hop
+    ∷ explains tie (y ∷ y ∷ n ∷ o ∷ o ∷ []) (lasting 3 0 2 4) (fails (negsuc 3 ∷ []))
+    ∷ explains tie (y ∷ y ∷ n ∷ o ∷ o ∷ []) (within 1 0 2 5) (fails (negsuc 4 ∷ pos 3 ∷ []))
     ∷ []
 
 pub shown : (c : Case) → List·Memᴰ c table → Says c
-unfolding table lone row never y n o literals next reached isTrue? levels judge close search reason trueIn value add
+unfolding table lone row never lake tie y n o literals next upTo isTrue? judge close search reason trueIn value add
 shown c m = passed c (all-each passes table tt c m)

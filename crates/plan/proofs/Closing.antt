@@ -9,37 +9,43 @@ use native.Mathlib.Omega.{arith}
 use lib.ListN.{getD}
 use lib.IntN.{ℤ, pos, negsuc, negℤ, natAbs, ℤ-discrete}
 use lib.Dec.{T, T-not, not-T}
-use Rattle.plan.specs.Meaning.{Edge, Atom, PlanFile, IsTrue, on, off, value, isOn, isOff, Literals, _⊆_, trueIn, add, under, over, Full, IsPlan}
+use Rattle.plan.specs.Meaning.{Edge, Atom, PlanFile, Graph, IsTrue, on, off, literalOf, value, isOn, isOff, Literals, _⊆_, trueIn, add, under, over, Full, IsRight, IsPlan}
 use Rattle.plan.specs.Ranged.{Ranged}
 use Rattle.plan.specs.Closing.{Settles, Gives, unit, settled, Obeys, Clash, both, all-false, Closing, Closed, Clashes}
 use Rattle.plan.proofs.Bools.{T?, T-same, any-or-none}
-use Rattle.plan.proofs.Walks.{true-mono}
+use Rattle.plan.proofs.Walks.{Long, true-mono}
 use Rattle.plan.proofs.Levels.{isTrue?, true-iff}
+
+-- every edge of an accepted file has a length
+pub edges-long : (φ : PlanFile) → Ranged φ → Long (φ .edges)
+edges-long φ ok e m = ok .long e m .low
 
 -- a larger set of literals has more in its under graph and less in its over graph; so what it settles of an atom stays settled
 over-less : (S R : Literals) → S ⊆ R → (e : Edge) → T (over R e) → T (over S e)
 over-less S R h e t = not-T (S (off (e .variable))) (λ u. T-not (R (off (e .variable))) t (h (off (e .variable)) u))
 
-pub settles-mono : (φ : PlanFile) (S R : Literals) → S ⊆ R → (A : Atom) (b : Bool) → Settles φ S A b → Settles φ R A b
-settles-mono φ S R h A true x = true-mono (φ .edges) (under S) (under R) A (λ e i t. h (on (e .variable)) t) x
-settles-mono φ S R h A false n = λ x. n (true-mono (φ .edges) (over R) (over S) A (λ e i t. over-less S R h e t) x)
+pub settles-mono : (φ : PlanFile) → Ranged φ → (S R : Literals) → S ⊆ R → (A : Atom) (b : Bool) → Settles φ S A b → Settles φ R A b
+settles-mono φ ok S R h A true x = true-mono (φ .edges) (edges-long φ ok) (under S) (under R) A (λ e i t. h (on (e .variable)) t) x
+settles-mono φ ok S R h A false n = λ x. n (true-mono (φ .edges) (edges-long φ ok) (over R) (over S) A (λ e i t. over-less S R h e t) x)
 
 -- what is settled, as antt computes it
 abbrev pub settles? : PlanFile → Literals → Atom → Bool → Bool
 settles? φ S A true = isTrue? (φ .nodes) (φ .edges) (under S) A
 settles? φ S A false = not (isTrue? (φ .nodes) (φ .edges) (over S) A)
 
-pub settles-iff : (φ : PlanFile) (S : Literals) (A : Atom) → ((e : Edge) → List·Memᴰ e (φ .edges) → e .to < φ .nodes) → A .from < φ .nodes
-    → (b : Bool) → T (settles? φ S A b) ↔ Settles φ S A b
-settles-iff φ S A inside start true = true-iff (φ .nodes) (φ .edges) (under S) A inside start
-settles-iff φ S A inside start false =
-    let q = true-iff (φ .nodes) (φ .edges) (over S) A inside start in
+pub true-in : (φ : PlanFile) → Ranged φ → (g : Graph) (A : Atom) → A .from < φ .nodes → T (isTrue? (φ .nodes) (φ .edges) g A) ↔ IsTrue (φ .edges) g A
+true-in φ ok g A start = true-iff (φ .nodes) (φ .edges) g A (edges-long φ ok) (λ e i. ok .edge e i .to-in) start
+
+pub settles-iff : (φ : PlanFile) → Ranged φ → (S : Literals) (A : Atom) → A .from < φ .nodes → (b : Bool) → T (settles? φ S A b) ↔ Settles φ S A b
+settles-iff φ ok S A start true = true-in φ ok (under S) A start
+settles-iff φ ok S A start false =
+    let q = true-in φ ok (over S) A start in
     ((λ t x. T-not (isTrue? (φ .nodes) (φ .edges) (over S) A) t (q .1 x)), (λ n. not-T (isTrue? (φ .nodes) (φ .edges) (over S) A) (λ t. n (q .0 t))))
 
 -- what a set gives, a larger one gives too
-pub gives-mono : (φ : PlanFile) (S R : Literals) → S ⊆ R → (l : ℤ) → Gives φ S l → Gives φ R l
-gives-mono φ S R h l (unit C m z i others) = unit C m z i (λ x k n. h (negℤ x) (others x k n))
-gives-mono φ S R h l (settled A m b x) = settled A m b (settles-mono φ S R h A b x)
+pub gives-mono : (φ : PlanFile) → Ranged φ → (S R : Literals) → S ⊆ R → (l : ℤ) → Gives φ S l → Gives φ R l
+gives-mono φ ok S R h l (unit C m z i others) = unit C m z i (λ x k n. h (negℤ x) (others x k n))
+gives-mono φ ok S R h l (settled A m b x) = settled A m b (settles-mono φ ok S R h A b x)
 
 -- sets
 pub clash-mono : (φ : PlanFile) (S R : Literals) → S ⊆ R → Clash φ S → Clash φ R
@@ -98,18 +104,22 @@ module _ (φ : PlanFile) (ok : Ranged φ) (a : List ℤ) where
   plan-free p (both v x y) = never-both a (on v) x y
   plan-free p (all-false C m f) = let q = p .clause C m in never-both a (q .0) (q .2) (f (q .0) (q .1))
 
+  -- what a full assignment settles of an atom whose variable equals its truth is so in it
+  pub settled-true : Full (φ .variables) a → (A : Atom) → List·Memᴰ A (φ .atoms) → IsRight φ a A → (b : Bool) → Settles φ (trueIn a) A b → T (trueIn a (literalOf b (A .variable)))
+  settled-true f A m right true x = right .1 x
+  settled-true f A m right false n = go (one-of (φ .variables) a f (on (A .variable)) (ok .atom A m .low) (ok .atom A m .high))
+    where
+      go : T (trueIn a (on (A .variable))) ⊎ T (trueIn a (off (A .variable))) → T (trueIn a (off (A .variable)))
+      go (inl t) = absurd (n (true-mono (φ .edges) (edges-long φ ok) (under (trueIn a)) (over (trueIn a)) A (λ e i u. on-over a (e .variable) u) (right .0 t)))
+      go (inr t) = t
+
   pub plan-obeys : IsPlan φ a → Obeys φ (trueIn a)
   plan-obeys p l (unit C m z i others) = let q = p .clause C m in go (q .0) (q .1) (q .2) (ℤ-discrete (q .0) l)
     where
       go : (x : ℤ) → List·Memᴰ x C → T (trueIn a x) → Dec (x ≡ l) → T (trueIn a l)
       go x k t (yes e) = subst (λ z. T (trueIn a z)) e t
       go x k t (no n) = absurd (never-both a x t (others x k n))
-  plan-obeys p l (settled A m true h) = p .atom A m .1 h
-  plan-obeys p l (settled A m false n) = go (one-of (φ .variables) a (p .full) (on (A .variable)) (ok .atom A m .low) (ok .atom A m .high))
-    where
-      go : T (trueIn a (on (A .variable))) ⊎ T (trueIn a (off (A .variable))) → T (trueIn a (off (A .variable)))
-      go (inl t) = absurd (n (true-mono (φ .edges) (under (trueIn a)) (over (trueIn a)) A (λ e i u. on-over a (e .variable) u) (p .atom A m .0 t)))
-      go (inr t) = t
+  plan-obeys p l (settled A m b x) = settled-true (p .full) A m (p .atom A m) b x
 
   pub full-plan : Full (φ .variables) a → Obeys φ (trueIn a) → (Clash φ (trueIn a) → ⊥) → IsPlan φ a
   full-plan f o free = record { full = f; clause = some-true; atom = λ A m. (right A m, λ h. o (on (A .variable)) (settled A m true h)) }
@@ -129,10 +139,10 @@ module _ (φ : PlanFile) (ok : Ranged φ) (a : List ℤ) where
       right A m t = go (T? (isTrue? (φ .nodes) (φ .edges) (under (trueIn a)) A))
         where
           same : T (isTrue? (φ .nodes) (φ .edges) (under (trueIn a)) A) ↔ IsTrue (φ .edges) (under (trueIn a)) A
-          same = true-iff (φ .nodes) (φ .edges) (under (trueIn a)) A (λ e i. ok .edge e i .to-in) (ok .atom A m .from-in)
+          same = true-in φ ok (under (trueIn a)) A (ok .atom A m .from-in)
 
           ov : IsTrue (φ .edges) (over (trueIn a)) A → IsTrue (φ .edges) (under (trueIn a)) A
-          ov h = true-mono (φ .edges) (over (trueIn a)) (under (trueIn a)) A (λ e i u. over-on (φ .variables) a f (e .variable) (ok .edge e i .low) (ok .edge e i .high) u) h
+          ov h = true-mono (φ .edges) (edges-long φ ok) (over (trueIn a)) (under (trueIn a)) A (λ e i u. over-on (φ .variables) a f (e .variable) (ok .edge e i .low) (ok .edge e i .high) u) h
 
           go : T (isTrue? (φ .nodes) (φ .edges) (under (trueIn a)) A) ⊎ (T (isTrue? (φ .nodes) (φ .edges) (under (trueIn a)) A) → ⊥)
               → IsTrue (φ .edges) (under (trueIn a)) A

@@ -84,7 +84,7 @@ module _ {A : Type 0} where
 -- the computed literals are those that the rules give
 module _ (φ : PlanFile) (ok : Ranged φ) (a : List ℤ) where
   settled-iff : (A : Atom) → List·Memᴰ A (φ .atoms) → (b : Bool) → T (settles? φ (trueIn a) A b) ↔ Settles φ (trueIn a) A b
-  settled-iff A m b = settles-iff φ (trueIn a) A (λ e i. ok .edge e i .to-in) (ok .atom A m .from-in) b
+  settled-iff A m b = settles-iff φ ok (trueIn a) A (ok .atom A m .from-in) b
 
   byAtom-out : (A : Atom) → List·Memᴰ A (φ .atoms) → (l : ℤ) → List·Memᴰ l (byAtom φ a A) → Gives φ (trueIn a) l
   byAtom-out A m l k = let q = each-out (byVerdict φ a A) (true ∷ false ∷ []) l k in go (q .0) (settles? φ (trueIn a) A (q .0)) (settled-iff A m (q .0) .0) (q .2)
@@ -162,7 +162,7 @@ module _ (φ : PlanFile) (ok : Ranged φ) where
 
   -- a set that contains a and obeys has what a gives
   given-in : (a R : Literals) (l : ℤ) → Gives φ a l → a ⊆ R → Obeys φ R → T (R l)
-  given-in a R l g h o = o l (gives-mono φ a R h l g)
+  given-in a R l g h o = o l (gives-mono φ ok a R h l g)
 
   sign : (R : Literals) (l : ℤ) → T (R l) → T (R (negℤ l)) → Clash φ R
   sign R (pos v) p q = both v p q

@@ -1,27 +1,28 @@
 -- Reasons as antt computes them: every atom has one.
 -- Assumes nothing.
-use mathlib.Core.Path.{_≡_, refl, sym, subst}
+use mathlib.Core.Path.{_≡_, refl, sym, subst, subst₂}
 use mathlib.Core.Logic.{_⊎_, inl, inr, _↔_}
 use mathlib.Core.Bool.{Bool, true, false, not, cond, _&&_}
-use mathlib.Core.List.{List, [], _∷_, map, List·Memᴰ, List·Memᴰ·head, List·Memᴰ·tail, List·Memᴰ·cases-cons, List·Memᴰ·not-nil, Memᴰ·cast}
+use mathlib.Core.List.{List, [], _∷_, map, List·Memᴰ, List·Memᴰ·head, List·Memᴰ·tail, Memᴰ·cast}
 use mathlib.Core.Option.{Option, none, some}
 use Prim.Native.Nat.{ℕ, zero, suc, _+_, _-_, _≤_, _<_}
 use native.Mathlib.Omega.{arith}
 use lib.ListN.{length, getD}
 use lib.IntN.{ℤ}
-use lib.Dec.{T, T-not, not-T, eqb, eqb→eq, eqb-refl, ltb, ltb→lt, lt→ltb}
-use Rattle.plan.specs.Meaning.{Edge, Atom, PlanFile, Graph, edge, Cost, Walk, stay, hop, oneHop, Hops, costOf, IsTrue, on, off, trueIn, under, over}
+use lib.Dec.{T, T-not, not-T, eqb, eqb→eq, eqb-refl, ltb, ltb→lt, lt→ltb, leb, leb→le, le→leb}
+use Rattle.plan.specs.Meaning.{Edge, Atom, PlanFile, Graph, noEdge, edge, Cost, Walk, stay, hop, Distance, measureOf, costOf, Allows, IsTrue, on, off, trueIn, under, over}
 use Rattle.plan.specs.Closing.{Settles}
 use Rattle.plan.specs.declared.Kind.{Kind}
-use Rattle.plan.specs.declared.Kind.the-variants.{Reaches, Within}
+use Rattle.plan.specs.declared.Kind.the-variants.{Reaches, Within, LengthAtMost}
 use Rattle.plan.specs.Ranged.{Ranged}
-use Rattle.plan.specs.Reason.{Smallest, Nearer, Back, source, step, Rising, end, more, Listed, LeavesAt, Across, Reason, holds, fails, neither, Cut, HoldsBy, FailsBy, ReasonIs}
-use Rattle.plan.proofs.Bools.{tab, anyOf, those, and-both, and-left, and-right, any-some, some-any}
+use Rattle.plan.specs.Reason.{Smallest, Nearer, Back, source, step, Rising, end, more, Listed, LeavesAt, EndsBeyond, Across, Reason, holds, fails, neither, Cut, HoldsBy, FailsBy, ReasonIs}
+use Rattle.plan.proofs.Bools.{anyOf, those, and-both, and-left, and-right, any-some, some-any}
 use Rattle.plan.proofs.Lists.{le-or-lt, mem-at}
-use Rattle.plan.proofs.Levels.{reached, sound, complete, enough}
-use Rattle.plan.proofs.Closing.{settles?, settles-iff}
+use Rattle.plan.proofs.Walks.{Pays, Long, pays-by}
+use Rattle.plan.proofs.Levels.{reached, lastLevel, sound, keeps, complete, seen, isTrue?}
+use Rattle.plan.proofs.Closing.{edges-long, settles?, settles-iff}
 use Rattle.plan.proofs.Exists.{those-in, those-out}
-use Rattle.plan.proofs.Reason.{further, nearest, lastLevel, seen-not-beyond, unseen-beyond, cut-of}
+use Rattle.plan.proofs.Reason.{asked, beyond-iff, cut-of, path-in, cut-in}
 
 -- the numbers above b, k of them
 abbrev pub upFrom : ℕ → ℕ → List ℕ
@@ -91,35 +92,28 @@ abbrev pub orZero : Option ℕ → ℕ
 orZero none = zero
 orZero (some k) = k
 
--- hops, a path read back and the cut, computed
-abbrev pub leaves? : Kind → ℕ → ℕ → Bool
-leaves? Reaches d k = true
-leaves? Within d k = ltb k d
+abbrev pub some? : Option ℕ → Bool
+some? none = false
+some? (some k) = true
 
-module _ (n : ℕ) (es : List Edge) (f : Graph) (s : ℕ) where
-  abbrev pub hops? : ℕ → ℕ → Bool
-  hops? zero w = getD (reached n es f s zero) w false
-  hops? (suc k) w = getD (reached n es f s (suc k)) w false && not (getD (reached n es f s k) w false)
+-- distances and a path read back, computed
+module _ (c : Cost) (n : ℕ) (es : List Edge) (f : Graph) (s : ℕ) where
+  -- w is k from s: it is in level k, and in none before
+  abbrev pub distance? : ℕ → ℕ → Bool
+  distance? zero w = getD (reached c n es f s zero) w false
+  distance? (suc k) w = getD (reached c n es f s (suc k)) w false && not (getD (reached c n es f s k) w false)
 
   abbrev pub backTest : ℕ → ℕ → ℕ → Bool
-  backTest k w j = ltb j (length es) && (f (edge es j) && (eqb (edge es j .to) w && hops? k (edge es j .from)))
+  backTest k w j = ltb j (length es) && (f (edge es j) && (eqb (edge es j .to) w && (leb (c (edge es j)) k && distance? (k - c (edge es j)) (edge es j .from))))
 
   abbrev pub backOver : (Edge → List ℕ) → Option ℕ → List ℕ
   backOver r none = []
   backOver r (some j) = edge es j .variable ∷ r (edge es j)
 
-  abbrev pub readBack : ℕ → ℕ → List ℕ
-  readBack zero w = []
-  readBack (suc k) w = backOver (λ e. readBack k (e .from)) (firstBelow (length es) (backTest k w))
-
-  abbrev pub cutAt? : Kind → ℕ → Edge → ℕ → Bool
-  cutAt? kind d e k = hops? k (e .from) && (leaves? kind d k && not (getD (reached n es f s (lastLevel n kind (k + 1))) (e .to) false))
-
-  abbrev pub cut? : Kind → ℕ → Edge → Bool
-  cut? kind d e = anyOf (cutAt? kind d e) (tab n (λ k. k))
-
-  abbrev pub hopsTo : ℕ → ℕ
-  hopsTo w = orZero (firstBelow n (λ k. hops? k w))
+  -- the path to w, which is k from s; so many edges at the most are read
+  abbrev pub readBack : ℕ → ℕ → ℕ → List ℕ
+  readBack zero k w = []
+  readBack (suc i) k w = backOver (λ e. readBack i (k - c e) (e .from)) (firstBelow (length es) (backTest k w))
 
 -- a cheapest walk that costs something has a last edge, with which it ends
 pub last-nearer : {c : Cost} {es : List Edge} {g : Graph} {s w k : ℕ} → Walk c es g s w k → ((m : ℕ) → Walk c es g s w m → k ≤ m) → (s ≡ w × (k ≡ zero)) ⊎ ((j : ℕ) × Nearer c es g s w k j)
@@ -139,122 +133,187 @@ last-nearer {c} {es} {g} {s} {w} {k} (hop {u = u} {j = j} r d e) h = inr (
   },
 )
 
-pub tab-mem : {A : Type 0} (n : ℕ) (f : ℕ → A) (k : ℕ) → k < n → List·Memᴰ (f k) (tab n f)
-tab-mem zero f k h = absurd (omega arith)
-tab-mem (suc n) f zero h = List·Memᴰ·head refl
-tab-mem (suc n) f (suc k) h = List·Memᴰ·tail (tab-mem n (λ i. f (suc i)) k (omega arith))
-
-module _ (n : ℕ) (es : List Edge) (f : Graph) (s : ℕ) (inside : (e : Edge) → List·Memᴰ e es → e .to < n) (start : s < n) where
-  pub hops-iff : (k w : ℕ) → T (hops? n es f s k w) ↔ Hops es f s w k
-  hops-iff zero w = ((λ t. let q = sound n es f s zero w t in record { walk = subst (λ j. Walk oneHop es f s w j) (omega (arith, q .1)) (q .2); fewest = λ j r. omega arith }), (λ h. complete n es f s inside start w zero (h .walk)))
-  hops-iff (suc k) w = (there, back)
+module _ (c : Cost) (n : ℕ) (es : List Edge) (f : Graph) (s : ℕ) (pays : Pays c es) (inside : (e : Edge) → List·Memᴰ e es → e .to < n) (start : s < n) where
+  -- what is not in a level is further
+  further : (k w : ℕ) → (T (getD (reached c n es f s k) w false) → ⊥) → (j : ℕ) → Walk c es f s w j → k < j
+  further k w h j r = go (le-or-lt j k)
     where
-      there : T (hops? n es f s (suc k) w) → Hops es f s w (suc k)
+      go : (j ≤ k) ⊎ (k < j) → k < j
+      go (inl q) = absurd (h (keeps c n es f s j k q w (complete c n es f s inside start pays w j r)))
+      go (inr q) = q
+
+  distance-iff : (k w : ℕ) → T (distance? c n es f s k w) ↔ Distance c es f s w k
+  distance-iff zero w = (
+    (λ t. let q = sound c n es f s pays zero w t in record { walk = subst (λ j. Walk c es f s w j) (omega (arith, q .1)) (q .2); fewest = λ j r. omega arith }),
+    (λ h. complete c n es f s inside start pays w zero (h .walk)),
+  )
+  distance-iff (suc k) w = (there, back)
+    where
+      there : T (distance? c n es f s (suc k) w) → Distance c es f s w (suc k)
       there t =
-          let far : T (getD (reached n es f s k) w false) → ⊥ = λ u. T-not (getD (reached n es f s k) w false) (and-right (getD (reached n es f s (suc k)) w false) _ t) u in
-          let q = sound n es f s (suc k) w (and-left (getD (reached n es f s (suc k)) w false) _ t) in
-          let beyond = further n es f s inside start k w far (q .0) (q .2) in
-          record { walk = subst (λ j. Walk oneHop es f s w j) (omega (arith, q .1, beyond)) (q .2); fewest = λ j r. further n es f s inside start k w far j r }
+          let far : T (getD (reached c n es f s k) w false) → ⊥ = λ u. T-not (getD (reached c n es f s k) w false) (and-right (getD (reached c n es f s (suc k)) w false) _ t) u in
+          let q = sound c n es f s pays (suc k) w (and-left (getD (reached c n es f s (suc k)) w false) _ t) in
+          let beyond = further k w far (q .0) (q .2) in
+          record { walk = subst (λ j. Walk c es f s w j) (omega (arith, q .1, beyond)) (q .2); fewest = λ j r. further k w far j r }
 
-      back : Hops es f s w (suc k) → T (hops? n es f s (suc k) w)
-      back h = and-both (getD (reached n es f s (suc k)) w false) _ (complete n es f s inside start w (suc k) (h .walk))
-          (not-T (getD (reached n es f s k) w false) (λ t. let q = sound n es f s k w t in omega (arith, q .1, h .fewest (q .0) (q .2))))
+      back : Distance c es f s w (suc k) → T (distance? c n es f s (suc k) w)
+      back h = and-both (getD (reached c n es f s (suc k)) w false) _ (complete c n es f s inside start pays w (suc k) (h .walk))
+          (not-T (getD (reached c n es f s k) w false) (λ t. let q = sound c n es f s pays k w t in omega (arith, q .1, h .fewest (q .0) (q .2))))
 
-  step-iff : (k w j : ℕ) → T (backTest n es f s k w j) ↔ Nearer oneHop es f s w (suc k) j
+  step-iff : (k w j : ℕ) → T (backTest c n es f s k w j) ↔ Nearer c es f s w k j
   step-iff k w j = (there, back)
     where
-      there : T (backTest n es f s k w j) → Nearer oneHop es f s w (suc k) j
+      e : Edge
+      e = edge es j
+
+      there : T (backTest c n es f s k w j) → Nearer c es f s w k j
       there t =
           let u = and-right (ltb j (length es)) _ t in
-          let v = and-right (f (edge es j)) _ u in
+          let v = and-right (f e) _ u in
+          let x = and-right (eqb (e .to) w) _ v in
           record {
             listed = ltb→lt j (length es) (and-left (ltb j (length es)) _ t);
-            present = and-left (f (edge es j)) _ u;
-            ends = eqb→eq (edge es j .to) w (and-left (eqb (edge es j .to) w) _ v);
-            before = k;
-            near = hops-iff k (edge es j .from) .0 (and-right (eqb (edge es j .to) w) _ v);
-            sum = omega arith;
+            present = and-left (f e) _ u;
+            ends = eqb→eq (e .to) w (and-left (eqb (e .to) w) _ v);
+            before = k - c e;
+            near = distance-iff (k - c e) (e .from) .0 (and-right (leb (c e) k) _ x);
+            sum = omega (arith, leb→le (c e) k (and-left (leb (c e) k) _ x));
           }
 
-      back : Nearer oneHop es f s w (suc k) j → T (backTest n es f s k w j)
+      back : Nearer c es f s w k j → T (backTest c n es f s k w j)
       back q =
           and-both (ltb j (length es)) _ (lt→ltb j (length es) (q .listed))
-          (and-both (f (edge es j)) _ (q .present)
-          (and-both (eqb (edge es j .to) w) _ (subst (λ x. T (eqb (edge es j .to) x)) (q .ends) (eqb-refl (edge es j .to)))
-          (hops-iff k (edge es j .from) .1 (subst (λ i. Hops es f s (edge es j .from) i) (omega (arith, q .sum)) (q .near)))))
+          (and-both (f e) _ (q .present)
+          (and-both (eqb (e .to) w) _ (subst (λ x. T (eqb (e .to) x)) (q .ends) (eqb-refl (e .to)))
+          (and-both (leb (c e) k) _ (le→leb (c e) k (omega (arith, q .sum)))
+          (distance-iff (k - c e) (e .from) .1 (subst (λ i. Distance c es f s (e .from) i) (omega (arith, q .sum)) (q .near))))))
 
-  back-is : (k w : ℕ) → Hops es f s w k → Back oneHop es f s w k (readBack n es f s k w)
-  back-is zero w h = go (last-nearer (h .walk) (h .fewest))
+  -- where no edge comes from nearer, the path is at its source
+  at-source : (k w : ℕ) → Distance c es f s w k → ((j : ℕ) → Nearer c es f s w k j → ⊥) → Back c es f s w k []
+  at-source k w h n = go (last-nearer (h .walk) (h .fewest))
     where
-      go : (s ≡ w × (zero ≡ zero)) ⊎ ((j : ℕ) × Nearer oneHop es f s w zero j) → Back oneHop es f s w zero []
-      go (inl e) = subst (λ x. Back oneHop es f s x zero []) (e .0) source
-      go (inr q) = absurd (omega (arith, q .1 .sum))
-  back-is (suc k) w h = go (back-is k) (found-view _ (backTest n es f s k w) (step-iff k w) (length es))
+      go : (s ≡ w × (k ≡ zero)) ⊎ ((j : ℕ) × Nearer c es f s w k j) → Back c es f s w k []
+      go (inl e) = subst₂ (λ x y. Back c es f s x y []) (e .0) (sym (e .1)) source
+      go (inr q) = absurd (n (q .0) (q .1))
+
+  -- as many edges as the distance are enough, since each costs something
+  back-is : (i k w : ℕ) → k ≤ i → Distance c es f s w k → Back c es f s w k (readBack c n es f s i k w)
+  back-is zero k w l h = at-source k w h (λ j q. omega (arith, q .sum, pays (edge es j) (mem-at es _ j (q .listed))))
+  back-is (suc i) k w l h = go (back-is i) (found-view (Nearer c es f s w k) (backTest c n es f s k w) (step-iff k w) (length es))
     where
-      some-edge : (s ≡ w × (suc k ≡ zero)) ⊎ ((j : ℕ) × Nearer oneHop es f s w (suc k) j) → (j : ℕ) × Nearer oneHop es f s w (suc k) j
-      some-edge (inl e) = absurd (omega (arith, e .1))
-      some-edge (inr q) = q
+      go : ((m v : ℕ) → m ≤ i → Distance c es f s v m → Back c es f s v m (readBack c n es f s i m v))
+          → {o : Option ℕ} → Found (Nearer c es f s w k) (length es) o → Back c es f s w k (backOver c n es f s (λ e. readBack c n es f s i (k - c e) (e .from)) o)
+      go r (no-such none-fits) = at-source k w h (λ j q. none-fits j (q .listed) q)
+      go r (such {k = j} x first) =
+          let e = edge es j in
+          let p : first .is .before ≡ k - c e = omega (arith, first .is .sum) in
+          step first (subst (λ m. Back c es f s (e .from) m (readBack c n es f s i (k - c e) (e .from))) (sym p)
+          (r (k - c e) (e .from) (omega (arith, pays e (mem-at es _ j (first .is .listed)))) (subst (λ m. Distance c es f s (e .from) m) p (first .is .near))))
 
-      go : ((v : ℕ) → Hops es f s v k → Back oneHop es f s v k (readBack n es f s k v))
-          → {o : Option ℕ} → Found (Nearer oneHop es f s w (suc k)) (length es) o
-          → Back oneHop es f s w (suc k) (backOver n es f s (λ e. readBack n es f s k (e .from)) o)
-      go r (no-such none-fits) = let q = some-edge (last-nearer (h .walk) (h .fewest)) in absurd (none-fits (q .0) (q .1 .listed) (q .1))
-      go r (such {k = j} l first) =
-          let e : first .is .before ≡ k = omega (arith, first .is .sum) in
-          step first (subst (λ i. Back oneHop es f s (edge es j .from) i (readBack n es f s k (edge es j .from))) (sym e)
-          (r (edge es j .from) (subst (λ i. Hops es f s (edge es j .from) i) e (first .is .near))))
+-- the kinds: whether an edge that leads across may start so far away
+abbrev pub leaves? : Kind → ℕ → ℕ → Bool
+leaves? Reaches d k = true
+leaves? Within d k = ltb k d
+leaves? LengthAtMost d k = ltb k d
 
-  last-hop : (k w : ℕ) → Hops es f s w k → k < n
-  last-hop k w h = let q = sound n es f s (n - 1) w (enough n es f s inside start w k (h .walk)) in omega (arith, q .1, h .fewest (q .0) (q .2))
+leaves-iff : (kind : Kind) (d k : ℕ) → T (leaves? kind d k) ↔ LeavesAt kind d k
+leaves-iff Reaches d k = ((λ t. t), (λ t. t))
+leaves-iff Within d k = (ltb→lt k d, lt→ltb k d)
+leaves-iff LengthAtMost d k = (ltb→lt k d, lt→ltb k d)
 
-  hopsTo-is : (w : ℕ) → T (getD (reached n es f s (n - 1)) w false) → Hops es f s w (hopsTo n es f s w)
-  hopsTo-is w t = go (found-view (λ k. Hops es f s w k) (λ k. hops? n es f s k w) (λ k. hops-iff k w) n)
-    where
-      go : {o : Option ℕ} → Found (λ k. Hops es f s w k) n o → Hops es f s w (orZero o)
-      go (no-such h) = let q = nearest n es f s inside start (n - 1) w t in absurd (h (q .0) (last-hop (q .0) w (q .2)) (q .2))
-      go (such l first) = first .is
+leaves-allows : (kind : Kind) (d k : ℕ) → LeavesAt kind d k → Allows kind d k
+leaves-allows Reaches d k h = tt
+leaves-allows Within d k h = omega arith
+leaves-allows LengthAtMost d k h = omega arith
 
-  leaves-iff : (kind : Kind) (d k : ℕ) → T (leaves? kind d k) ↔ LeavesAt kind d k
-  leaves-iff Reaches d k = ((λ t. t), (λ t. t))
-  leaves-iff Within d k = (ltb→lt k d, lt→ltb k d)
+-- the target's distance and the cut, computed over the distances up to the last level
+module _ (n : ℕ) (es : List Edge) (f : Graph) (s : ℕ) (kind : Kind) (d : ℕ) where
+  abbrev pub firstFar : (ℕ → Bool) → Option ℕ
+  firstFar test = firstBelow (suc (lastLevel n kind d)) test
 
-  cut-iff : (kind : Kind) (d : ℕ) (e : Edge) → T (cut? n es f s kind d e) ↔ Across kind es f d s e
-  cut-iff kind d e = (there, back)
-    where
-      level : ℕ → Bool
-      level k = getD (reached n es f s (lastLevel n kind (k + 1))) (e .to) false
+  abbrev pub distanceTo : ℕ → ℕ
+  distanceTo w = orZero (firstFar (λ k. distance? (costOf kind) n es f s k w))
 
-      there : T (cut? n es f s kind d e) → Across kind es f d s e
-      there t =
-          let q = any-some (cutAt? n es f s kind d e) (tab n (λ k. k)) t in
-          let k = q .0 in
-          let u = and-right (hops? n es f s k (e .from)) _ (q .2) in (
-            k,
-            hops-iff k (e .from) .0 (and-left (hops? n es f s k (e .from)) _ (q .2)),
+  abbrev pub cutAt? : Edge → ℕ → Bool
+  cutAt? e k = distance? (costOf kind) n es f s k (e .from) && (leaves? kind d k && not (isTrue? n es f (asked kind s (k + costOf kind e) (e .to))))
+
+  abbrev pub cut? : Edge → Bool
+  cut? e = some? (firstFar (cutAt? e))
+
+  module _ (long : Long es) (inside : (e : Edge) → List·Memᴰ e es → e .to < n) (start : s < n) where
+    pays : Pays (costOf kind) es
+    pays = pays-by (measureOf kind) es long
+
+    near-iff : (k w : ℕ) → T (distance? (costOf kind) n es f s k w) ↔ Distance (costOf kind) es f s w k
+    near-iff = distance-iff (costOf kind) n es f s pays inside start
+
+    -- what is allowed lies there
+    by-last : (k w : ℕ) → Distance (costOf kind) es f s w k → Allows kind d k → k < suc (lastLevel n kind d)
+    by-last k w h l =
+        let q = sound (costOf kind) n es f s pays (lastLevel n kind d) w (seen n es f s inside start long kind d k w (h .walk) l) in
+        omega (arith, q .1, h .fewest (q .0) (q .2))
+
+    distanceTo-is : (k w : ℕ) → Distance (costOf kind) es f s w k → Allows kind d k → Distance (costOf kind) es f s w (distanceTo w)
+    distanceTo-is k w h l = go (found-view (λ k. Distance (costOf kind) es f s w k) (λ k. distance? (costOf kind) n es f s k w) (λ k. near-iff k w) (suc (lastLevel n kind d)))
+      where
+        go : {o : Option ℕ} → Found (λ k. Distance (costOf kind) es f s w k) (suc (lastLevel n kind d)) o → Distance (costOf kind) es f s w (orZero o)
+        go (no-such none-fits) = absurd (none-fits k (by-last k w h l) h)
+        go (such x first) = first .is
+
+    -- the edge leads across, and starts at k
+    abbrev AcrossAt : Edge → ℕ → Type 0
+    AcrossAt e k = Distance (costOf kind) es f s (e .from) k × LeavesAt kind d k × ((j : ℕ) → Distance (costOf kind) es f s (e .to) j → EndsBeyond kind (k + costOf kind e) j)
+
+    cutAt-iff : (e : Edge) (k : ℕ) → T (cutAt? e k) ↔ AcrossAt e k
+    cutAt-iff e k = (
+      (λ t.
+          let u = and-right (distance? (costOf kind) n es f s k (e .from)) _ t in (
+            near-iff k (e .from) .0 (and-left (distance? (costOf kind) n es f s k (e .from)) _ t),
             leaves-iff kind d k .0 (and-left (leaves? kind d k) _ u),
-            unseen-beyond n es f s inside start kind (k + 1) (e .to) (T-not (getD (reached n es f s (lastLevel n kind (k + 1))) (e .to) false) (and-right (leaves? kind d k) _ u)),
-          )
+            beyond .0 (T-not ends (and-right (leaves? kind d k) _ u)),
+          )),
+      (λ q.
+          and-both (distance? (costOf kind) n es f s k (e .from)) _ (near-iff k (e .from) .1 (q .0))
+          (and-both (leaves? kind d k) _ (leaves-iff kind d k .1 (q .1)) (not-T ends (beyond .1 (q .2))))),
+    )
+      where
+        ends : Bool
+        ends = isTrue? n es f (asked kind s (k + costOf kind e) (e .to))
 
-      back : Across kind es f d s e → T (cut? n es f s kind d e)
-      back q =
-          let k = q .0 in
-          some-any (cutAt? n es f s kind d e) (tab n (λ k. k)) k (tab-mem n (λ k. k) k (last-hop k (e .from) (q .1)))
-          (and-both (hops? n es f s k (e .from)) _ (hops-iff k (e .from) .1 (q .1))
-          (and-both (leaves? kind d k) _ (leaves-iff kind d k .1 (q .2))
-          (not-T (getD (reached n es f s (lastLevel n kind (k + 1))) (e .to) false)
-          (λ t. let z = seen-not-beyond n es f s inside start kind (k + 1) (e .to) t in z .2 (q .3 (z .0) (z .1))))))
+        beyond : (T ends → ⊥) ↔ ((j : ℕ) → Distance (costOf kind) es f s (e .to) j → EndsBeyond kind (k + costOf kind e) j)
+        beyond = beyond-iff n es f s long inside start kind (k + costOf kind e) (e .to)
+
+    cut-iff : (e : Edge) → T (cut? e) ↔ Across kind es f d s e
+    cut-iff e = go (found-view (AcrossAt e) (cutAt? e) (cutAt-iff e) (suc (lastLevel n kind d)))
+      where
+        go : {o : Option ℕ} → Found (AcrossAt e) (suc (lastLevel n kind d)) o → T (some? o) ↔ Across kind es f d s e
+        go (no-such none-fits) = ((λ t. absurd t), (λ q. none-fits (q .0) (by-last (q .0) (e .from) (q .1) (leaves-allows kind d (q .0) (q .2))) (q .1, q .2, q .3)))
+        go (such {k = k} l first) = ((λ t. (k, first .is .0, first .is .1, first .is .2)), (λ q. tt))
 
 -- the reason of an atom
 module _ (φ : PlanFile) (a : List ℤ) (A : Atom) where
-  abbrev pub pathVar? : ℕ → Bool
-  pathVar? v = anyOf (λ u. eqb v u) (readBack (φ .nodes) (φ .edges) (under (trueIn a)) (A .from) (hopsTo (φ .nodes) (φ .edges) (under (trueIn a)) (A .from) (A .to)) (A .to))
+  abbrev pub far : ℕ
+  far = distanceTo (φ .nodes) (φ .edges) (under (trueIn a)) (A .from) (A .kind) (A .bound) (A .to)
 
-  abbrev pub cutVar? : ℕ → Bool
-  cutVar? v = anyOf (λ e. eqb (e .variable) v && (trueIn a (off (e .variable)) && cut? (φ .nodes) (φ .edges) (over (trueIn a)) (A .from) (A .kind) (A .bound) e)) (φ .edges)
+  abbrev pub path : List ℕ
+  path = readBack (costOf (A .kind)) (φ .nodes) (φ .edges) (under (trueIn a)) (A .from) far far (A .to)
+
+  abbrev pub cutEdge? : Edge → Bool
+  cutEdge? e = trueIn a (off (e .variable)) && cut? (φ .nodes) (φ .edges) (over (trueIn a)) (A .from) (A .kind) (A .bound) e
+
+  -- the variables that pass, rising
+  abbrev pub rising : (ℕ → Bool) → List ℕ
+  rising test = those test (upFrom 0 (φ .variables))
+
+  abbrev pub onPath : List ℕ → List ℕ
+  onPath vs = rising (λ v. anyOf (λ u. eqb v u) vs)
+
+  abbrev pub ofEdges : (Edge → Bool) → List ℕ
+  ofEdges test = rising (λ v. anyOf (λ e. eqb (e .variable) v && test e) (φ .edges))
 
   abbrev pub reasonBy : Bool → Bool → Reason
-  reasonBy true t = holds (on (A .variable) ∷ map off (those pathVar? (upFrom 0 (φ .variables))))
-  reasonBy false true = fails (off (A .variable) ∷ map on (those cutVar? (upFrom 0 (φ .variables))))
+  reasonBy true t = holds (on (A .variable) ∷ map off (onPath path))
+  reasonBy false true = fails (off (A .variable) ∷ map on (ofEdges cutEdge?))
   reasonBy false false = neither
 
   unfoldable pub reason : Reason
@@ -264,63 +323,54 @@ module _ (φ : PlanFile) (a : List ℤ) (A : Atom) where
     inside : (e : Edge) → List·Memᴰ e (φ .edges) → e .to < φ .nodes
     inside e i = ok .edge e i .to-in
 
-    path-edge : {w k : ℕ} {vs : List ℕ} → Back (costOf (A .kind)) (φ .edges) (under (trueIn a)) (A .from) w k vs → (v : ℕ) → List·Memᴰ v vs → (zero < v) × (v ≤ φ .variables)
-    path-edge source v m = absurd (List·Memᴰ·not-nil m)
-    path-edge (step {j = j} {vs = vs} f b) v m = go (λ q. path-edge b v q) (List·Memᴰ·cases-cons m)
-      where
-        go : (List·Memᴰ v vs → (zero < v) × (v ≤ φ .variables)) → (v ≡ edge (φ .edges) j .variable) ⊎ List·Memᴰ v vs → (zero < v) × (v ≤ φ .variables)
-        go r (inl q) = let i = ok .edge (edge (φ .edges) j) (mem-at (φ .edges) _ j (f .is .listed)) in (omega (arith, i .low), omega (arith, i .high))
-        go r (inr q) = r q
-
-    holds-by : IsTrue (φ .edges) (under (trueIn a)) A → HoldsBy φ a A (on (A .variable) ∷ map off (those pathVar? (upFrom 0 (φ .variables))))
+    holds-by : IsTrue (φ .edges) (under (trueIn a)) A → HoldsBy φ a A (on (A .variable) ∷ map off (onPath path))
     holds-by h =
-        let k = hopsTo (φ .nodes) (φ .edges) (under (trueIn a)) (A .from) (A .to) in
-        let near = hopsTo-is (φ .nodes) (φ .edges) (under (trueIn a)) (A .from) inside start (A .to)
-        (enough (φ .nodes) (φ .edges) (under (trueIn a)) (A .from) inside start (A .to) (h .0) (h .1 .walk)) in
-        let path = back-is (φ .nodes) (φ .edges) (under (trueIn a)) (A .from) inside start k (A .to) near in
+        let near = distanceTo-is (φ .nodes) (φ .edges) (under (trueIn a)) (A .from) (A .kind) (A .bound) (edges-long φ ok) inside start (h .0) (A .to) (h .1) (h .2) in
+        let read = back-is (costOf (A .kind)) (φ .nodes) (φ .edges) (under (trueIn a)) (A .from) (pays-by (measureOf (A .kind)) (φ .edges) (edges-long φ ok)) inside start far far (A .to) (omega arith) near in
         record {
           truth = h;
-          count = k;
-          path = readBack (φ .nodes) (φ .edges) (under (trueIn a)) (A .from) k (A .to);
+          count = far;
+          path = path;
           nearest = near;
-          read = path;
-          premises = those pathVar? (upFrom 0 (φ .variables));
-          listed = listed-of pathVar? (λ v. List·Memᴰ v (readBack (φ .nodes) (φ .edges) (under (trueIn a)) (A .from) k (A .to))) (φ .variables)
-              (λ v t. let q = any-some (λ u. eqb v u) (readBack (φ .nodes) (φ .edges) (under (trueIn a)) (A .from) k (A .to)) t in Memᴰ·cast (eqb→eq v (q .0) (q .2)) (q .1))
-              (λ v m. let q = path-edge path v m in (q .0, q .1, some-any (λ u. eqb v u) (readBack (φ .nodes) (φ .edges) (under (trueIn a)) (A .from) k (A .to)) v m (eqb-refl v)));
+          read = read;
+          premises = onPath path;
+          listed = listed-of (λ v. anyOf (λ u. eqb v u) path) (λ v. List·Memᴰ v path) (φ .variables)
+              (λ v t. let q = any-some (λ u. eqb v u) path t in Memᴰ·cast (eqb→eq v (q .0) (q .2)) (q .1))
+              (λ v m. let q = path-in φ ok read v m in (q .0, q .1, some-any (λ u. eqb v u) path v m (eqb-refl v)));
           clause = refl;
         }
 
-    fails-by : (IsTrue (φ .edges) (over (trueIn a)) A → ⊥) → FailsBy φ a A (off (A .variable) ∷ map on (those cutVar? (upFrom 0 (φ .variables))))
+    fails-by : (IsTrue (φ .edges) (over (trueIn a)) A → ⊥) → FailsBy φ a A (off (A .variable) ∷ map on (ofEdges cutEdge?))
     fails-by h = record {
       falsity = h;
-      premises = those cutVar? (upFrom 0 (φ .variables));
-      listed = listed-of cutVar? (Cut φ a A) (φ .variables) there back;
+      premises = ofEdges cutEdge?;
+      listed = listed-of (λ v. anyOf (test v) (φ .edges)) (Cut φ a A) (φ .variables) there back;
       clause = refl;
     }
       where
         test : ℕ → Edge → Bool
-        test v e = eqb (e .variable) v && (trueIn a (off (e .variable)) && cut? (φ .nodes) (φ .edges) (over (trueIn a)) (A .from) (A .kind) (A .bound) e)
+        test v e = eqb (e .variable) v && cutEdge? e
 
-        there : (v : ℕ) → T (cutVar? v) → Cut φ a A v
+        across : (e : Edge) → T (cut? (φ .nodes) (φ .edges) (over (trueIn a)) (A .from) (A .kind) (A .bound) e) ↔ Across (A .kind) (φ .edges) (over (trueIn a)) (A .bound) (A .from) e
+        across = cut-iff (φ .nodes) (φ .edges) (over (trueIn a)) (A .from) (A .kind) (A .bound) (edges-long φ ok) inside start
+
+        there : (v : ℕ) → T (anyOf (test v) (φ .edges)) → Cut φ a A v
         there v t =
             let q = any-some (test v) (φ .edges) t in
-            let u = and-right (eqb (q .0 .variable) v) _ (q .2) in
-            subst (λ z. Cut φ a A z) (eqb→eq (q .0 .variable) v (and-left (eqb (q .0 .variable) v) _ (q .2)))
-            (cut-of φ a A (q .0) (q .1) (and-left (trueIn a (off (q .0 .variable))) _ u)
-            (cut-iff (φ .nodes) (φ .edges) (over (trueIn a)) (A .from) inside start (A .kind) (A .bound) (q .0) .0 (and-right (trueIn a (off (q .0 .variable))) _ u)))
+            let e = q .0 in
+            let u = and-right (eqb (e .variable) v) _ (q .2) in
+            subst (λ z. Cut φ a A z) (eqb→eq (e .variable) v (and-left (eqb (e .variable) v) _ (q .2)))
+            (cut-of φ a A e (q .1) (and-left (trueIn a (off (e .variable))) _ u) (across e .0 (and-right (trueIn a (off (e .variable))) _ u)))
 
-        back : (v : ℕ) → Cut φ a A v → (zero < v) × (v ≤ φ .variables) × T (cutVar? v)
+        back : (v : ℕ) → Cut φ a A v → (zero < v) × (v ≤ φ .variables) × T (anyOf (test v) (φ .edges))
         back v c =
             let e = edge (φ .edges) (c .number) in
-            let m = mem-at (φ .edges) (record { from = 0; to = 0; variable = 0 }) (c .number) (c .listed) in
-            let r = ok .edge e m in (
-              omega (arith, r .low, c .its),
-              omega (arith, r .high, c .its),
-              some-any (test v) (φ .edges) e m
+            let r = cut-in φ ok a A v c in (
+              r .0,
+              r .1,
+              some-any (test v) (φ .edges) e (mem-at (φ .edges) noEdge (c .number) (c .listed))
                   (and-both (eqb (e .variable) v) _ (subst (λ z. T (eqb (e .variable) z)) (c .its) (eqb-refl (e .variable)))
-                  (and-both (trueIn a (off (e .variable))) _ (subst (λ z. T (trueIn a (off z))) (sym (c .its)) (c .isOff))
-                  (cut-iff (φ .nodes) (φ .edges) (over (trueIn a)) (A .from) inside start (A .kind) (A .bound) e .1 (c .across)))),
+                  (and-both (trueIn a (off (e .variable))) _ (subst (λ z. T (trueIn a (off z))) (sym (c .its)) (c .isOff)) (across e .1 (c .across)))),
             )
 
     reasonBy-is : (x y : Bool) → (T x ↔ Settles φ (trueIn a) A true) → (T y ↔ Settles φ (trueIn a) A false) → ReasonIs φ a A (reasonBy x y)
@@ -335,4 +385,4 @@ module _ (φ : PlanFile) (a : List ℤ) (A : Atom) where
     -- every atom has a reason, or is open
     pub reason-is : ReasonIs φ a A reason
     unfolding reason
-    reason-is = reasonBy-is (settles? φ (trueIn a) A true) (settles? φ (trueIn a) A false) (settles-iff φ (trueIn a) A inside start true) (settles-iff φ (trueIn a) A inside start false)
+    reason-is = reasonBy-is (settles? φ (trueIn a) A true) (settles? φ (trueIn a) A false) (settles-iff φ ok (trueIn a) A start true) (settles-iff φ ok (trueIn a) A start false)

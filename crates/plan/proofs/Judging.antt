@@ -11,7 +11,8 @@ use Rattle.plan.specs.Meaning.{Atom, PlanFile, on, trueIn, under, Full, 
 use Rattle.plan.specs.Ranged.{Ranged}
 use Rattle.plan.specs.Judging.{FirstWithout, here, later, Judgement, plan, no-true, wrong, Judged}
 use Rattle.plan.proofs.Bools.{anyOf, any-some, some-any}
-use Rattle.plan.proofs.Levels.{isTrue?, true-iff}
+use Rattle.plan.proofs.Levels.{isTrue?}
+use Rattle.plan.proofs.Closing.{true-in}
 
 module _ {A : Type 0} (P : A → Type 0) where
   pub first-unique : {xs : List A} {m n : ℕ} → FirstWithout P xs m → FirstWithout P xs n → m ≡ n
@@ -99,4 +100,4 @@ module _ (φ : PlanFile) (ok : Ranged φ) (a : List ℤ) (f : Full (φ .variable
       (firstNot-is (HasTrue a) (hasTrue? a) (φ .clauses) (λ C m. ((λ t. any-some (trueIn a) C t), (λ q. some-any (trueIn a) C (q .0) (q .1) (q .2)))))
       (firstNot-is (IsRight φ a) (isRight? φ a) (φ .atoms)
       (λ A m. beq-iff (trueIn a (on (A .variable))) (isTrue? (φ .nodes) (φ .edges) (under (trueIn a)) A)
-      (true-iff (φ .nodes) (φ .edges) (under (trueIn a)) A (λ e i. ok .edge e i .to-in) (ok .atom A m .from-in))))
+      (true-in φ ok (under (trueIn a)) A (ok .atom A m .from-in))))

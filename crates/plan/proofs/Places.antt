@@ -1,10 +1,16 @@
 -- Looking for the first place with a property: how a loop begins, goes on and ends, and that there is one such place.
 -- Assumes nothing.
-use mathlib.Core.Path.{_≡_, subst}
+use mathlib.Core.Path.{_≡_, refl, sym, ap, _∙_, subst}
+use mathlib.Core.Logic.{_⊎_, inl, inr}
+use mathlib.Core.Bool.{Bool, true, false, cond}
+use mathlib.Core.List.{List, [], _∷_, List·Memᴰ, List·Memᴰ·cases-cons, List·Memᴰ·not-nil}
 use Prim.Native.Nat.{ℕ, zero, suc, _+_, _-_, _≤_, _<_}
 use native.Mathlib.Decide.{decLt, ℕ-discrete}
 use native.Mathlib.Omega.{arith}
-use Rattle.plan.specs.Places.{Without, First, Found}
+use lib.ListN.{length, getD, drop, drop-of-length-le}
+use lib.Seq.{drop-cons}
+use lib.Dec.{T}
+use Rattle.plan.specs.Places.{Without, First, Found, firstNot}
 
 module _ (P : ℕ → Type 0) where
   pub without-none : (from : ℕ) → Without P from from
@@ -68,3 +74,40 @@ module _ (P : ℕ → Type 0) where
         go : Dec (P from) → (r : ℕ) × (r ≤ last) × Found P (from + 1) end r → (r : ℕ) × (r ≤ last) × Found P from end r
         go (yes y) q = (from, omega arith, record { after = omega arith; inside = omega arith; before = without-none from; here = y })
         go (no n) q = (q .0, q .1, found-back (omega arith) (without-more (without-none from) n) (q .2))
+
+-- the first element that fails a test, from place i on: what is behind i decides it, where all before i passes
+module _ {A : Type 0} (ok : A → Bool) (d : A) (xs : List A) (i : ℕ) where
+  first-at : i < length xs → firstNot ok (drop i xs) ≡ cond (ok (getD xs i d)) (suc (firstNot ok (drop (suc i) xs))) zero
+  unfolding firstNot
+  first-at h = ap (firstNot ok) (drop-cons xs i d h)
+
+  pub first-skip : i < length xs → ok (getD xs i d) ≡ true → i + firstNot ok (drop i xs) ≡ suc i + firstNot ok (drop (suc i) xs)
+  first-skip h t = omega (arith, first-at h ∙ ap (λ (b : Bool). cond b (suc (firstNot ok (drop (suc i) xs))) zero) t)
+
+  pub first-here : i < length xs → ok (getD xs i d) ≡ false → firstNot ok (drop i xs) ≡ 0
+  first-here h t = first-at h ∙ ap (λ (b : Bool). cond b (suc (firstNot ok (drop (suc i) xs))) zero) t
+
+  pub first-none : length xs ≤ i → firstNot ok (drop i xs) ≡ 0
+  unfolding firstNot
+  first-none h = ap (firstNot ok) (drop-of-length-le xs h)
+
+pub first-le : {A : Type 0} (ok : A → Bool) (xs : List A) → firstNot ok xs ≤ length xs
+unfolding firstNot
+first-le ok [] = omega arith
+first-le ok (x ∷ xs) = go (ok x) (first-le ok xs)
+  where
+    go : (b : Bool) → firstNot ok xs ≤ length xs → cond b (suc (firstNot ok xs)) zero ≤ suc (length xs)
+    go true h = omega arith
+    go false h = omega arith
+
+-- where it is none, every element passes
+pub all-pass : {A : Type 0} (ok : A → Bool) (xs : List A) → firstNot ok xs ≡ length xs → (x : A) → List·Memᴰ x xs → T (ok x)
+unfolding firstNot
+all-pass ok [] e x m = absurd (List·Memᴰ·not-nil m)
+all-pass {A} ok (y ∷ xs) e x m = go (ok y) refl e (all-pass ok xs) (List·Memᴰ·cases-cons m)
+  where
+    go : (b : Bool) → ok y ≡ b → cond b (suc (firstNot ok xs)) zero ≡ suc (length xs) → (firstNot ok xs ≡ length xs → (x : A) → List·Memᴰ x xs → T (ok x))
+        → (x ≡ y) ⊎ List·Memᴰ x xs → T (ok x)
+    go true t q r (inl p) = subst (λ z. T (ok z)) (sym p) (subst (λ b. T b) (sym t) tt)
+    go true t q r (inr k) = r (omega arith) x k
+    go false t q r p = absurd (omega arith)

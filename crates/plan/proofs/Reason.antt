@@ -1,24 +1,25 @@
--- A reason is one clause, and it is true wherever the atom's variable equals its truth.
+-- A reason is one clause; its premises alone decide the atom; so it is true wherever the atom's variable equals its truth.
 -- Assumes nothing.
 use mathlib.Core.Path.{_≡_, refl, sym, subst, subst₂, _∙_, ap, ap₂}
 use mathlib.Core.Logic.{_⊎_, inl, inr, _↔_}
 use mathlib.Core.Bool.{Bool, true, false, not}
-use mathlib.Core.List.{List, _∷_, map, List·Memᴰ, List·Memᴰ·head, List·Memᴰ·tail, List·Memᴰ·cases-cons, List·Memᴰ·not-nil}
-use Prim.Native.Nat.{ℕ, zero, _+_, _-_, _≤_, _<_}
+use mathlib.Core.List.{List, [], _∷_, map, List·Memᴰ, List·Memᴰ·head, List·Memᴰ·tail, List·Memᴰ·cases-cons, List·Memᴰ·not-nil}
+use Prim.Native.Nat.{ℕ, zero, _+_, _≤_, _<_}
 use native.Mathlib.Omega.{arith}
-use lib.ListN.{getD}
-use lib.IntN.{ℤ}
-use lib.Dec.{T, not-T}
-use Rattle.plan.specs.Meaning.{Edge, Atom, PlanFile, Graph, edge, Cost, Walk, stay, hop, Distance, oneHop, Hops, costOf, Allows, IsTrue, on, off, trueIn, under, over, Full, HasTrue, IsRight}
+use lib.ListN.{length}
+use lib.IntN.{ℤ, negℤ, negℤ-negℤ, natAbs}
+use lib.Dec.{T, T-not, not-T}
+use Rattle.plan.specs.Meaning.{Edge, Atom, PlanFile, Graph, noEdge, edge, Cost, Walk, stay, hop, Distance, measureOf, costOf, Allows, IsTrue, on, off, literalOf, trueIn, under, over, Full, HasTrue, IsRight}
 use Rattle.plan.specs.declared.Kind.{Kind}
-use Rattle.plan.specs.declared.Kind.the-variants.{Reaches, Within}
-use Rattle.plan.specs.Ranged.{Ranged}
-use Rattle.plan.specs.Reason.{Smallest, Nearer, Back, source, step, Rising, end, more, Listed, LeavesAt, EndsBeyond, Across, Reason, holds, fails, neither, Cut, HoldsBy, FailsBy, ReasonIs}
+use Rattle.plan.specs.declared.Kind.the-variants.{Reaches, Within, LengthAtMost}
+use Rattle.plan.specs.Ranged.{LiteralFits, LiteralsFit, Ranged}
+use Rattle.plan.specs.Reason.{Smallest, Nearer, Back, source, step, Rising, end, more, Listed, LeavesAt, EndsBeyond, Across, Reason, holds, fails, neither, Cut, HoldsBy, FailsBy, ReasonIs, Decides}
 use Rattle.plan.proofs.Bools.{T?, any-or-none}
 use Rattle.plan.proofs.Lists.{le-or-lt, mem-at, at-mem}
-use Rattle.plan.proofs.Walks.{its-in, Pays, kind-pays, hop-by, true-mono, distance-of, distance-unique, allows-less, true-led}
-use Rattle.plan.proofs.Levels.{reached, sound, keeps, complete, enough}
-use Rattle.plan.proofs.Closing.{on-over, one-of}
+use Rattle.plan.proofs.Walks.{its-in, Pays, Long, pays-by, hop-by, true-mono, distance-of, distance-unique, allows-less, true-led}
+use Rattle.plan.proofs.Levels.{isTrue?, true-iff}
+use Rattle.plan.proofs.Closing.{edges-long, on-over, one-of, settled-true}
+use Rattle.plan.proofs.Exists.{literal-size}
 
 -- each part is one
 pub smallest-one : {P : ℕ → Type 0} {j k : ℕ} → Smallest P j → Smallest P k → j ≡ k
@@ -77,15 +78,17 @@ rising-one (more {v = x} {vs = xs} k r) (more {v = y} {vs = ys} l s) h = ap₂ (
 listed-one : (P Q : ℕ → Type 0) (xs ys : List ℕ) → ((v : ℕ) → P v ↔ Q v) → Listed P xs → Listed Q ys → xs ≡ ys
 listed-one P Q xs ys e x y = rising-one (x .rising) (y .rising) (λ v. ((λ m. y .exact v .1 (e v .0 (x .exact v .0 m))), (λ m. x .exact v .1 (e v .1 (y .exact v .0 m)))))
 
-module _ (φ : PlanFile) (a : List ℤ) (A : Atom) where
+module _ (φ : PlanFile) (ok : Ranged φ) (a : List ℤ) (A : Atom) where
   under-over : IsTrue (φ .edges) (under (trueIn a)) A → IsTrue (φ .edges) (over (trueIn a)) A
-  under-over h = true-mono (φ .edges) (under (trueIn a)) (over (trueIn a)) A (λ e i t. on-over a (e .variable) t) h
+  under-over h = true-mono (φ .edges) (edges-long φ ok) (under (trueIn a)) (over (trueIn a)) A (λ e i t. on-over a (e .variable) t) h
 
   holds-one : (r r′ : List ℤ) → HoldsBy φ a A r → HoldsBy φ a A r′ → r ≡ r′
   holds-one r r′ x y = x .clause ∙ ap (λ vs. on (A .variable) ∷ map off vs) same ∙ sym (y .clause)
     where
       paths : x .path ≡ y .path
-      paths = back-one (costOf (A .kind)) (φ .edges) (under (trueIn a)) (A .from) (kind-pays (A .kind) (φ .edges)) refl (distance-unique (x .nearest) (y .nearest)) (x .read) (y .read)
+      paths =
+          back-one (costOf (A .kind)) (φ .edges) (under (trueIn a)) (A .from) (pays-by (measureOf (A .kind)) (φ .edges) (edges-long φ ok)) refl (distance-unique (x .nearest) (y .nearest)) (x .read)
+          (y .read)
 
       same : x .premises ≡ y .premises
       same = listed-one _ _ (x .premises) (y .premises) (λ v. ((λ m. subst (λ p. List·Memᴰ v p) paths m), (λ m. subst (λ p. List·Memᴰ v p) (sym paths) m))) (x .listed) (y .listed)
@@ -105,96 +108,91 @@ module _ (φ : PlanFile) (a : List ℤ) (A : Atom) where
   reason-unique neither (fails r′) x y = absurd (x false (y .falsity))
   reason-unique neither neither x y = refl
 
-pub mem-map : {A B : Type 0} (f : A → B) {x : A} {xs : List A} → List·Memᴰ x xs → List·Memᴰ (f x) (map f xs)
-mem-map f (List·Memᴰ·head e) = List·Memᴰ·head (ap f e)
-mem-map f (List·Memᴰ·tail m) = List·Memᴰ·tail (mem-map f m)
+-- the kinds, all that is asked of them here: a bound allows itself, what it allows grows with it, and beyond it lies just what it does not allow
+allows-same : (kind : Kind) (d : ℕ) → Allows kind d d
+allows-same Reaches d = tt
+allows-same Within d = omega arith
+allows-same LengthAtMost d = omega arith
 
--- by which level of n nodes a node is seen that does not end beyond `far`
-abbrev pub lastLevel : ℕ → Kind → ℕ → ℕ
-lastLevel n Reaches far = n - 1
-lastLevel n Within far = far
+allows-more : (kind : Kind) (d k x : ℕ) → Allows kind d k → Allows kind (d + x) (k + x)
+allows-more Reaches d k x h = tt
+allows-more Within d k x h = omega arith
+allows-more LengthAtMost d k x h = omega arith
 
--- hops and levels
-module _ (n : ℕ) (es : List Edge) (f : Graph) (s : ℕ) (inside : (e : Edge) → List·Memᴰ e es → e .to < n) (start : s < n) where
-  -- what is not in a level is further
-  pub further : (k w : ℕ) → (T (getD (reached n es f s k) w false) → ⊥) → (j : ℕ) → Walk oneHop es f s w j → k < j
-  further k w h j r = go (le-or-lt j k)
-    where
-      go : (j ≤ k) ⊎ (k < j) → k < j
-      go (inl q) = absurd (h (keeps n es f s j k q w (complete n es f s inside start w j r)))
-      go (inr q) = q
+allows-through : (kind : Kind) (d j k : ℕ) → Allows kind d j → Allows kind j k → Allows kind d k
+allows-through Reaches d j k h l = tt
+allows-through Within d j k h l = omega arith
+allows-through LengthAtMost d j k h l = omega arith
 
-  -- what is in a level has its hops
-  pub nearest : (j w : ℕ) → T (getD (reached n es f s j) w false) → (k : ℕ) × (k ≤ j) × Hops es f s w k
-  nearest j w t =
-      let q = sound n es f s j w t in
-      let h = distance-of oneHop es f s (λ e m. omega arith) w (q .0) (q .2) in
-      (h .0, omega (arith, h .2, q .1), h .1)
+leaves-by : (kind : Kind) (d k x : ℕ) → 1 ≤ x → Allows kind d (k + x) → LeavesAt kind d k
+leaves-by Reaches d k x l h = tt
+leaves-by Within d k x l h = omega arith
+leaves-by LengthAtMost d k x l h = omega arith
 
-  pub seen-not-beyond : (kind : Kind) (far w : ℕ) → T (getD (reached n es f s (lastLevel n kind far)) w false)
-      → (j : ℕ) × Distance (costOf kind) es f s w j × (EndsBeyond kind far j → ⊥)
-  seen-not-beyond Reaches far w t = let q = nearest (n - 1) w t in (q .0, q .2, λ z. z)
-  seen-not-beyond Within far w t = let q = nearest far w t in (q .0, q .2, λ z. omega (arith, q .1))
+beyond-all : (kind : Kind) (far j : ℕ) → (Allows kind far j → ⊥) → EndsBeyond kind far j
+beyond-all Reaches far j h = h tt
+beyond-all Within far j h = omega arith
+beyond-all LengthAtMost far j h = omega arith
 
-  pub unseen-beyond : (kind : Kind) (far w : ℕ) → (T (getD (reached n es f s (lastLevel n kind far)) w false) → ⊥)
-      → (j : ℕ) → Distance (costOf kind) es f s w j → EndsBeyond kind far j
-  unseen-beyond Reaches far w h j x = h (enough n es f s inside start w j (x .walk))
-  unseen-beyond Within far w h j x = further far w h j (x .walk)
+not-beyond : (kind : Kind) (far j : ℕ) → Allows kind far j → EndsBeyond kind far j → ⊥
+not-beyond Reaches far j h z = z
+not-beyond Within far j h z = omega arith
+not-beyond LengthAtMost far j h z = omega arith
+
+-- the atom that asks whether w is no further from s than `far`, of whatever variable
+abbrev pub asked : Kind → ℕ → ℕ → ℕ → Atom
+asked kind s far w = record { kind = kind; from = s; to = w; bound = far; variable = 0 }
+
+module _ (n : ℕ) (es : List Edge) (f : Graph) (s : ℕ) (long : Long es) (inside : (e : Edge) → List·Memᴰ e es → e .to < n) (start : s < n) (kind : Kind) where
+  -- "none, or more than"
+  pub beyond-iff : (far w : ℕ) → (T (isTrue? n es f (asked kind s far w)) → ⊥) ↔ ((j : ℕ) → Distance (costOf kind) es f s w j → EndsBeyond kind far j)
+  beyond-iff far w =
+      let q = true-iff n es f (asked kind s far w) long inside start in (
+        (λ h j x. beyond-all kind far j (λ l. h (q .1 (j, x, l)))),
+        (λ h t. let z = q .0 t in not-beyond kind far (z .0) (z .2) (h (z .0) (z .1))),
+      )
 
   -- a walk over other edges stays within what these reach, unless it takes an edge that leads across
-  module _ (g : Graph) (kind : Kind) (d : ℕ) (shut : (e : Edge) → List·Memᴰ e es → T (not (f e)) → Across kind es f d s e → T (g e) → ⊥) where
-    -- a walk to w that is no further than k
+  module _ (g : Graph) (d : ℕ) (shut : (e : Edge) → List·Memᴰ e es → T (not (f e)) → Across kind es f d s e → T (g e) → ⊥) where
+    pays : Pays (costOf kind) es
+    pays = pays-by (measureOf kind) es long
+
+    -- a walk to w that k allows
     abbrev Kept : ℕ → ℕ → Type 0
-    Kept w k = (i : ℕ) × Walk (costOf kind) es f s w i × (EndsBeyond kind k i → ⊥)
+    Kept w k = (i : ℕ) × Walk (costOf kind) es f s w i × Allows kind k i
 
     kept-on : (e : Edge) → List·Memᴰ e es → T (g e) → (j : ℕ) → Allows kind d (j + costOf kind e) → Kept (e .from) j → Kept (e .to) (j + costOf kind e)
     kept-on e m x j l q = go (T? (f e))
       where
-        add : (kind : Kind) (i k : ℕ) → i ≤ k → (EndsBeyond kind j k → ⊥) → EndsBeyond kind (j + 1) (i + 1) → ⊥
-        add Reaches i k l n z = z
-        add Within i k l n z = omega arith
+        there : ℕ → Bool
+        there i = isTrue? n es f (asked kind s (i + costOf kind e) (e .to))
 
-        through : (kind : Kind) (far i : ℕ) → (EndsBeyond kind far i → ⊥) → (EndsBeyond kind (j + 1) far → ⊥) → EndsBeyond kind (j + 1) i → ⊥
-        through Reaches far i n o z = z
-        through Within far i n o z = omega arith
+        last : T (not (f e)) → (i : ℕ) → Distance (costOf kind) es f s (e .from) i → Allows kind (j + costOf kind e) (i + costOf kind e) → T (there i) ⊎ (T (there i) → ⊥) → Kept (e .to) (j + costOf kind e)
+        last o i h b (inl t) =
+            let y = true-iff n es f (asked kind s (i + costOf kind e) (e .to)) long inside start .0 t in
+            (y .0, y .1 .walk, allows-through kind (j + costOf kind e) (i + costOf kind e) (y .0) b (y .2))
+        last o i h b (inr t) =
+            let r = allows-through kind d (j + costOf kind e) (i + costOf kind e) l b in
+            absurd (shut e m o (i, h, leaves-by kind d i (costOf kind e) (pays e m) r, beyond-iff (i + costOf kind e) (e .to) .0 t) x)
 
-        leaves : (kind : Kind) (i k : ℕ) → i ≤ k → (EndsBeyond kind j k → ⊥) → Allows kind d (j + 1) → LeavesAt kind d i
-        leaves Reaches i k l n h = tt
-        leaves Within i k l n h = omega arith
-
-        last : T (not (f e)) → (h : (i : ℕ) × Distance (costOf kind) es f s (e .from) i × (i ≤ q .0))
-            → T (getD (reached n es f s (lastLevel n kind (h .0 + 1))) (e .to) false) ⊎ (T (getD (reached n es f s (lastLevel n kind (h .0 + 1))) (e .to) false) → ⊥) → Kept (e .to) (j + 1)
-        last o h (inl z) =
-            let y = seen-not-beyond kind (h .0 + 1) (e .to) z in
-            (y .0, y .1 .walk, through kind (h .0 + 1) (y .0) (y .2) (add kind (h .0) (q .0) (h .2) (q .2)))
-        last o h (inr z) = absurd (shut e m o (h .0, h .1, leaves kind (h .0) (q .0) (h .2) (q .2) l, unseen-beyond kind (h .0 + 1) (e .to) z) x)
-
-        go : T (f e) ⊎ (T (f e) → ⊥) → Kept (e .to) (j + 1)
-        go (inl y) = (q .0 + 1, hop-by e m y (q .1) refl, add kind (q .0) (q .0) (omega arith) (q .2))
+        go : T (f e) ⊎ (T (f e) → ⊥) → Kept (e .to) (j + costOf kind e)
+        go (inl y) = (q .0 + costOf kind e, hop-by e m y (q .1) refl, allows-more kind j (q .0) (costOf kind e) (q .2))
         go (inr y) =
-            let h = distance-of (costOf kind) es f s (kind-pays kind es) (e .from) (q .0) (q .1) in
-            last (not-T (f e) y) h (T? (getD (reached n es f s (lastLevel n kind (h .0 + 1))) (e .to) false))
+            let h = distance-of (costOf kind) es f s pays (e .from) (q .0) (q .1) in
+            last (not-T (f e) y) (h .0) (h .1) (allows-more kind j (h .0) (costOf kind e) (allows-less kind j (h .0) (q .0) (h .2) (q .2))) (T? (there (h .0)))
 
     kept-all : (w k : ℕ) → Walk (costOf kind) es g s w k → Allows kind d k → Kept w k
-    kept-all w k stay l = (zero, stay, none kind)
-      where
-        none : (kind : Kind) → EndsBeyond kind zero zero → ⊥
-        none Reaches z = z
-        none Within z = omega arith
+    kept-all w k stay l = (zero, stay, allows-same kind zero)
     kept-all w k (hop {u = u} {j = j} r x p) l =
         subst₂ (λ y z. Kept y z) (x .ends) (sym p)
         (kept-on (edge es (x .number)) (its-in x) (x .present) j (subst (λ z. Allows kind d z) p l)
         (subst (λ y. Kept y j) (sym (x .starts)) (kept-all u j r (allows-less kind d j k (omega arith) l))))
 
-crossing : (n : ℕ) (es : List Edge) (f g : Graph) (A : Atom) → ((e : Edge) → List·Memᴰ e es → e .to < n) → A .from < n
+crossing : (n : ℕ) (es : List Edge) (f g : Graph) (A : Atom) → Long es → ((e : Edge) → List·Memᴰ e es → e .to < n) → A .from < n
     → ((e : Edge) → List·Memᴰ e es → T (not (f e)) → Across (A .kind) es f (A .bound) (A .from) e → T (g e) → ⊥) → IsTrue es g A → IsTrue es f A
-crossing n es f g A inside start shut h =
-    let q = kept-all n es f (A .from) inside start g (A .kind) (A .bound) shut (A .to) (h .0) (h .1 .walk) (h .2) in
-    true-led es f A .1 (q .0, q .1, allowed (A .kind) (A .bound) (h .0) (q .0) (q .2) (h .2))
-  where
-    allowed : (kind : Kind) (d k i : ℕ) → (EndsBeyond kind k i → ⊥) → Allows kind d k → Allows kind d i
-    allowed Reaches d k i n l = tt
-    allowed Within d k i n l = omega arith
+crossing n es f g A long inside start shut h =
+    let q = kept-all n es f (A .from) long inside start (A .kind) g (A .bound) shut (A .to) (h .0) (h .1 .walk) (h .2) in
+    true-led es long f A .1 (q .0, q .1, allows-through (A .kind) (A .bound) (h .0) (q .0) (h .2) (q .2))
 
 -- the edges of a path that is read back are a walk
 back-walk : (c : Cost) (es : List Edge) (f g : Graph) (s : ℕ) {w k : ℕ} {vs : List ℕ} → Back c es f s w k vs
@@ -205,51 +203,101 @@ back-walk c es f g s (step {j = j} p b) h =
     (record { number = j; listed = p .is .listed; present = h (edge es j) (mem-at es _ j (p .is .listed)) (List·Memᴰ·head refl); starts = refl; ends = p .is .ends })
     (p .is .sum)
 
-by-walk : (es : List Edge) (f g : Graph) (A : Atom) (k : ℕ) → IsTrue es f A → Distance (costOf (A .kind)) es f (A .from) (A .to) k → Walk (costOf (A .kind)) es g (A .from) (A .to) k → IsTrue es g A
-by-walk es f g A k h x r = true-led es g A .1 (k, r, subst (λ z. Allows (A .kind) (A .bound) z) (distance-unique (h .1) x) (h .2))
+by-walk : (es : List Edge) → Long es → (f g : Graph) (A : Atom) (k : ℕ) → IsTrue es f A → Distance (costOf (A .kind)) es f (A .from) (A .to) k → Walk (costOf (A .kind)) es g (A .from) (A .to) k
+    → IsTrue es g A
+by-walk es long f g A k h x r = true-led es long g A .1 (k, r, subst (λ z. Allows (A .kind) (A .bound) z) (distance-unique (h .1) x) (h .2))
 
-pub not-not : (b : Bool) → T (not (not b)) → T b
+not-not : (b : Bool) → T (not (not b)) → T b
 not-not true t = tt
 not-not false t = t
 
 pub cut-of : (φ : PlanFile) (a : List ℤ) (A : Atom) (e : Edge) → List·Memᴰ e (φ .edges) → T (trueIn a (off (e .variable)))
     → Across (A .kind) (φ .edges) (over (trueIn a)) (A .bound) (A .from) e → Cut φ a A (e .variable)
 cut-of φ a A e m o c =
-    let q = at-mem (φ .edges) (record { from = 0; to = 0; variable = 0 }) e m in
+    let q = at-mem (φ .edges) noEdge e m in
     record { number = q .0; listed = q .1; its = ap (λ z. z .variable) (sym (q .2)); isOff = o; across = subst (λ z. Across (A .kind) (φ .edges) (over (trueIn a)) (A .bound) (A .from) z) (q .2) c }
 
--- a reason is true in every full assignment in which the atom's variable equals its truth
-module _ (φ : PlanFile) (ok : Ranged φ) (a : List ℤ) (A : Atom) (m : List·Memᴰ A (φ .atoms)) (b : List ℤ) (f : Full (φ .variables) b) (right : IsRight φ b A) where
-  pub holds-true : (r : List ℤ) → HoldsBy φ a A r → HasTrue b r
-  holds-true r x = subst (λ c. (l : ℤ) × List·Memᴰ l c × T (trueIn b l)) (sym (x .clause)) (go (any-or-none (λ v. trueIn b (off v)) (x .premises)))
-    where
-      each : ((v : ℕ) → List·Memᴰ v (x .premises) → T (trueIn b (off v)) → ⊥) → (e : Edge) → List·Memᴰ e (φ .edges) → List·Memᴰ (e .variable) (x .path) → T (trueIn b (on (e .variable)))
-      each n e i p = pick (one-of (φ .variables) b f (on (e .variable)) (ok .edge e i .low) (ok .edge e i .high))
-        where
-          pick : T (trueIn b (on (e .variable))) ⊎ T (trueIn b (off (e .variable))) → T (trueIn b (on (e .variable)))
-          pick (inl t) = t
-          pick (inr t) = absurd (n (e .variable) (x .listed .exact (e .variable) .1 p) t)
+mem-map : {A B : Type 0} (f : A → B) {x : A} {xs : List A} → List·Memᴰ x xs → List·Memᴰ (f x) (map f xs)
+mem-map f (List·Memᴰ·head e) = List·Memᴰ·head (ap f e)
+mem-map f (List·Memᴰ·tail m) = List·Memᴰ·tail (mem-map f m)
 
-      go : ((v : ℕ) × List·Memᴰ v (x .premises) × T (trueIn b (off v))) ⊎ ((v : ℕ) → List·Memᴰ v (x .premises) → T (trueIn b (off v)) → ⊥)
-          → (l : ℤ) × List·Memᴰ l (on (A .variable) ∷ map off (x .premises)) × T (trueIn b l)
-      go (inl q) = (off (q .0), List·Memᴰ·tail (mem-map off (q .1)), q .2)
+-- of every reason its premises alone decide the atom: of a path, by its own edges; of a cut, since no walk that does without its edges gets across
+abbrev pub Decided : PlanFile → Atom → Reason → Type 0
+Decided φ A (holds r) = Decides φ A true r
+Decided φ A (fails r) = Decides φ A false r
+Decided φ A neither = T true
+
+pub decided : (φ : PlanFile) (ok : Ranged φ) (a : List ℤ) (A : Atom) → A .from < φ .nodes → (r : Reason) → ReasonIs φ a A r → Decided φ A r
+decided φ ok a A start (holds r) x = subst (λ z. Decides φ A true z) (sym (x .clause)) (λ S p.
+    by-walk (φ .edges) (edges-long φ ok) (under (trueIn a)) (under S) A (x .count) (x .truth) (x .nearest)
+    (back-walk (costOf (A .kind)) (φ .edges) (under (trueIn a)) (under S) (A .from) (x .read)
+    (λ e i m. subst (λ l. T (S l)) (negℤ-negℤ (on (e .variable))) (p (off (e .variable)) (mem-map off (x .listed .exact (e .variable) .1 m))))))
+decided φ ok a A start (fails r) x = subst (λ z. Decides φ A false z) (sym (x .clause)) (λ S p h.
+    x .falsity (crossing (φ .nodes) (φ .edges) (over (trueIn a)) (over S) A (edges-long φ ok) (λ e i. ok .edge e i .to-in) start
+    (λ e i o c t. T-not (S (off (e .variable))) t (p (on (e .variable)) (mem-map on (x .listed .exact (e .variable) .1 (cut-of φ a A e i (not-not (trueIn a (off (e .variable))) o) c))))) h))
+decided φ ok a A start neither x = tt
+
+-- a premise's variable is an edge's, so the clause's literals are of the file's variables
+abbrev pub InFile : PlanFile → ℕ → Type 0
+InFile φ v = (zero < v) × (v ≤ φ .variables)
+
+module _ (φ : PlanFile) (ok : Ranged φ) where
+  edge-in : (j v : ℕ) → j < length (φ .edges) → edge (φ .edges) j .variable ≡ v → InFile φ v
+  edge-in j v l e = let i = ok .edge (edge (φ .edges) j) (mem-at (φ .edges) noEdge j l) in (omega (arith, i .low), omega (arith, i .high))
+
+  pub path-in : {c : Cost} {g : Graph} {s w k : ℕ} {vs : List ℕ} → Back c (φ .edges) g s w k vs → (v : ℕ) → List·Memᴰ v vs → InFile φ v
+  path-in source v m = absurd (List·Memᴰ·not-nil m)
+  path-in (step {j = j} {vs = vs} f b) v m = go (λ q. path-in b v q) (List·Memᴰ·cases-cons m)
+    where
+      go : (List·Memᴰ v vs → InFile φ v) → (v ≡ edge (φ .edges) j .variable) ⊎ List·Memᴰ v vs → InFile φ v
+      go r (inl e) = edge-in j v (f .is .listed) (sym e)
+      go r (inr q) = r q
+
+  pub cut-in : (a : List ℤ) (A : Atom) (v : ℕ) → Cut φ a A v → InFile φ v
+  cut-in a A v c = edge-in (c .number) v (c .listed) (c .its)
+
+literals-fit : (φ : PlanFile) (b : Bool) (vs : List ℕ) → ((v : ℕ) → List·Memᴰ v vs → InFile φ v) → LiteralsFit (φ .variables) (map (literalOf b) vs)
+literals-fit φ b [] h l m = absurd (List·Memᴰ·not-nil m)
+literals-fit φ b (v ∷ vs) h l m = go (literals-fit φ b vs (λ w i. h w (List·Memᴰ·tail i)) l) (List·Memᴰ·cases-cons m)
+  where
+    go : (List·Memᴰ l (map (literalOf b) vs) → LiteralFits (φ .variables) l) → (l ≡ literalOf b v) ⊎ List·Memᴰ l (map (literalOf b) vs) → LiteralFits (φ .variables) l
+    go r (inl e) =
+        let i = h v (List·Memᴰ·head refl) in
+        let z = ap natAbs e ∙ literal-size b v in
+        record { low = omega (arith, i .0); high = omega (arith, i .1) }
+    go r (inr k) = r k
+
+-- a reason's clause has a true literal
+abbrev pub ClauseTrue : List ℤ → Reason → Type 0
+ClauseTrue c (holds r) = HasTrue c r
+ClauseTrue c (fails r) = HasTrue c r
+ClauseTrue c neither = T true
+
+-- so it is in every full assignment in which the atom's variable equals its truth: if no other literal of the clause is true there, all premises
+-- are, and they decide the atom
+module _ (φ : PlanFile) (ok : Ranged φ) (a : List ℤ) (A : Atom) (m : List·Memᴰ A (φ .atoms)) (c : List ℤ) (full : Full (φ .variables) c) (right : IsRight φ c A) where
+  decided-true : (b : Bool) (ls : List ℤ) → LiteralsFit (φ .variables) ls → Decides φ A b (literalOf b (A .variable) ∷ ls) → HasTrue c (literalOf b (A .variable) ∷ ls)
+  decided-true b ls fit d = go (any-or-none (trueIn c) ls)
+    where
+      opposite : (l : ℤ) → (T (trueIn c l) → ⊥) → T (trueIn c l) ⊎ T (trueIn c (negℤ l)) → T (trueIn c (negℤ l))
+      opposite l n (inl t) = absurd (n t)
+      opposite l n (inr t) = t
+
+      go : HasTrue c ls ⊎ ((l : ℤ) → List·Memᴰ l ls → T (trueIn c l) → ⊥) → HasTrue c (literalOf b (A .variable) ∷ ls)
+      go (inl q) = (q .0, List·Memᴰ·tail (q .1), q .2)
       go (inr n) = (
-        on (A .variable),
+        literalOf b (A .variable),
         List·Memᴰ·head refl,
-        right .1 (by-walk (φ .edges) (under (trueIn a)) (under (trueIn b)) A (x .count) (x .truth) (x .nearest)
-            (back-walk (costOf (A .kind)) (φ .edges) (under (trueIn a)) (under (trueIn b)) (A .from) (x .read) (each n))),
+        settled-true φ ok c full A m right b (d (trueIn c) (λ l k. opposite l (n l k) (one-of (φ .variables) c full l (fit l k .low) (fit l k .high)))),
       )
 
-  pub fails-true : (r : List ℤ) → FailsBy φ a A r → HasTrue b r
-  fails-true r x = subst (λ c. (l : ℤ) × List·Memᴰ l c × T (trueIn b l)) (sym (x .clause))
-      (go (one-of (φ .variables) b f (on (A .variable)) (ok .atom A m .low) (ok .atom A m .high)) (any-or-none (λ v. trueIn b (on v)) (x .premises)))
-    where
-      go : T (trueIn b (on (A .variable))) ⊎ T (trueIn b (off (A .variable)))
-          → ((v : ℕ) × List·Memᴰ v (x .premises) × T (trueIn b (on v))) ⊎ ((v : ℕ) → List·Memᴰ v (x .premises) → T (trueIn b (on v)) → ⊥)
-          → (l : ℤ) × List·Memᴰ l (off (A .variable) ∷ map on (x .premises)) × T (trueIn b l)
-      go (inr t) q = (off (A .variable), List·Memᴰ·head refl, t)
-      go (inl t) (inl q) = (on (q .0), List·Memᴰ·tail (mem-map on (q .1)), q .2)
-      go (inl t) (inr n) = absurd (x .falsity
-          (crossing (φ .nodes) (φ .edges) (over (trueIn a)) (under (trueIn b)) A (λ e i. ok .edge e i .to-in) (ok .atom A m .from-in)
-          (λ e i o c u. n (e .variable) (x .listed .exact (e .variable) .1 (cut-of φ a A e i (not-not (trueIn a (off (e .variable))) o) c)) u)
-          (right .0 t)))
+  pub reason-true : (r : Reason) → ReasonIs φ a A r → ClauseTrue c r
+  reason-true (holds r) x =
+      let d = subst (λ z. Decides φ A true z) (x .clause) (decided φ ok a A (ok .atom A m .from-in) (holds r) x) in
+      subst (λ z. HasTrue c z) (sym (x .clause))
+      (decided-true true (map off (x .premises)) (literals-fit φ false (x .premises) (λ v i. path-in φ ok (x .read) v (x .listed .exact v .0 i))) d)
+  reason-true (fails r) x =
+      let d = subst (λ z. Decides φ A false z) (x .clause) (decided φ ok a A (ok .atom A m .from-in) (fails r) x) in
+      subst (λ z. HasTrue c z) (sym (x .clause))
+      (decided-true false (map on (x .premises)) (literals-fit φ true (x .premises) (λ v i. cut-in φ ok a A v (x .listed .exact v .0 i))) d)
+  reason-true neither x = tt

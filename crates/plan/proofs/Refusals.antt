@@ -5,7 +5,7 @@ use mathlib.Core.Bool.{cond}
 use Prim.Native.Nat.{ℕ}
 use lib.Dec.{eqb}
 use Rattle.plan.specs.declared.Refusal.{Refusal}
-use Rattle.plan.specs.declared.Refusal.the-variants.{TooLong, Cut, Misplaced, UnknownTag, BadLength, OutOfRange, TooMany, Shared, WrongLength, BadValue, NoSuchAtom, NoRoom, BadText, WrongCount, TooManyVariables}
+use Rattle.plan.specs.declared.Refusal.the-variants.{TooLong, Cut, Misplaced, UnknownTag, BadLength, OutOfRange, TooMany, Shared, WrongLength, BadValue, NoSuchAtom, NoRoom, NoBlock, BadText, WrongCount, TooManyVariables}
 use Rattle.plan.specs.Refusals.{numberOf, valueOf}
 
 named : ℕ → ℕ → Refusal
@@ -22,9 +22,10 @@ named n v =
     (cond (eqb n 10) (BadValue v)
     (cond (eqb n 11) (NoSuchAtom v)
     (cond (eqb n 12) (NoRoom v)
+    (cond (eqb n 13) (NoBlock v)
     (cond (eqb n 20) (BadText v)
     (cond (eqb n 21) (WrongCount v)
-    (TooManyVariables v))))))))))))))
+    (TooManyVariables v)))))))))))))))
 
 named-is : (x : Refusal) → named (numberOf x) (valueOf x) ≡ x
 unfolding named
@@ -40,6 +41,7 @@ named-is (WrongLength v) = refl
 named-is (BadValue v) = refl
 named-is (NoSuchAtom v) = refl
 named-is (NoRoom v) = refl
+named-is (NoBlock v) = refl
 named-is (BadText v) = refl
 named-is (WrongCount v) = refl
 named-is (TooManyVariables v) = refl

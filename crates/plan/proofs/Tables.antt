@@ -8,35 +8,43 @@ use lib.ListN.{length, getD}
 use Rattle.plan.specs.Meaning.{Edge, Atom, kindOf}
 use Rattle.plan.specs.Tables.{edgesOf, atomsOf}
 
--- edge k stands at place 3k
-pub edges-at : (l : List ℕ) (k : ℕ) (d : Edge) → k * 3 + 2 < length l
-    → getD (edgesOf l) k d ≡ record { from = getD l (k * 3) 0; to = getD l (k * 3 + 1) 0; variable = getD l (k * 3 + 2) 0 }
+-- edge k stands at place 4k
+pub edges-at : (l : List ℕ) (k : ℕ) (d : Edge) → k * 4 + 3 < length l
+    → getD (edgesOf l) k d ≡ record { from = getD l (k * 4) 0; to = getD l (k * 4 + 1) 0; length = getD l (k * 4 + 2) 0; variable = getD l (k * 4 + 3) 0 }
 unfolding edgesOf
 edges-at [] k d h = absurd (omega arith)
 edges-at (f ∷ []) k d h = absurd (omega arith)
 edges-at (f ∷ t ∷ []) k d h = absurd (omega arith)
-edges-at (f ∷ t ∷ v ∷ r) zero d h = refl
-edges-at (f ∷ t ∷ v ∷ r) (suc k) d h =
+edges-at (f ∷ t ∷ q ∷ []) k d h = absurd (omega arith)
+edges-at (f ∷ t ∷ q ∷ v ∷ r) zero d h = refl
+edges-at (f ∷ t ∷ q ∷ v ∷ r) (suc k) d h =
     edges-at r k d (omega arith)
-    ∙ (λ i. record { from = on (k * 3) (suc k * 3) (omega arith) i; to = on (k * 3 + 1) (suc k * 3 + 1) (omega arith) i; variable = on (k * 3 + 2) (suc k * 3 + 2) (omega arith) i })
+    ∙ (λ i. record {
+      from = on (k * 4) (suc k * 4) (omega arith) i;
+      to = on (k * 4 + 1) (suc k * 4 + 1) (omega arith) i;
+      length = on (k * 4 + 2) (suc k * 4 + 2) (omega arith) i;
+      variable = on (k * 4 + 3) (suc k * 4 + 3) (omega arith) i;
+    })
   where
-    on : (j m : ℕ) → m ≡ suc (suc (suc j)) → getD r j 0 ≡ getD (f ∷ t ∷ v ∷ r) m 0
-    on j m e = ap (λ z. getD (f ∷ t ∷ v ∷ r) z 0) (sym e)
+    on : (j m : ℕ) → m ≡ suc (suc (suc (suc j))) → getD r j 0 ≡ getD (f ∷ t ∷ q ∷ v ∷ r) m 0
+    on j m e = ap (λ z. getD (f ∷ t ∷ q ∷ v ∷ r) z 0) (sym e)
 
-pub edges-most : (l : List ℕ) → length (edgesOf l) * 3 ≤ length l
+pub edges-most : (l : List ℕ) → length (edgesOf l) * 4 ≤ length l
 unfolding edgesOf
 edges-most [] = omega arith
 edges-most (f ∷ []) = omega arith
 edges-most (f ∷ t ∷ []) = omega arith
-edges-most (f ∷ t ∷ v ∷ r) = omega (arith, edges-most r)
+edges-most (f ∷ t ∷ q ∷ []) = omega arith
+edges-most (f ∷ t ∷ q ∷ v ∷ r) = omega (arith, edges-most r)
 
-pub within-listed : (l : List ℕ) (k : ℕ) → k * 3 + 2 < length l → k < length (edgesOf l)
+pub within-listed : (l : List ℕ) (k : ℕ) → k * 4 + 3 < length l → k < length (edgesOf l)
 unfolding edgesOf
 within-listed [] k h = absurd (omega arith)
 within-listed (f ∷ []) k h = absurd (omega arith)
 within-listed (f ∷ t ∷ []) k h = absurd (omega arith)
-within-listed (f ∷ t ∷ v ∷ r) zero h = omega arith
-within-listed (f ∷ t ∷ v ∷ r) (suc k) h = omega (arith, within-listed r k (omega arith))
+within-listed (f ∷ t ∷ q ∷ []) k h = absurd (omega arith)
+within-listed (f ∷ t ∷ q ∷ v ∷ r) zero h = omega arith
+within-listed (f ∷ t ∷ q ∷ v ∷ r) (suc k) h = omega (arith, within-listed r k (omega arith))
 
 pub atoms-length : (l : List ℕ) (n : ℕ) → length l ≡ n * 5 → length (atomsOf l) ≡ n
 unfolding atomsOf

@@ -1,15 +1,17 @@
 -- Walks, whatever their edges cost: edges by number and by membership, larger graphs, and that a walk has a cheapest one beside it.
 -- Assumes nothing.
-use mathlib.Core.Path.{_≡_, refl, sym, subst, subst₂, _∙_, ap}
+use mathlib.Core.Path.{_≡_, sym, subst, subst₂, _∙_, ap}
 use mathlib.Core.Logic.{_⊎_, inl, inr, _↔_}
 use mathlib.Core.Bool.{Bool, _&&_, _||_}
 use mathlib.Core.List.{List, List·Memᴰ}
 use Prim.Native.Nat.{ℕ, zero, suc, _+_, _-_, _≤_, _<_}
 use native.Mathlib.Omega.{arith}
 use lib.Dec.{T, eqb, eqb→eq, eqb-refl, leb, leb→le, le→leb}
-use Rattle.plan.specs.Meaning.{Edge, Atom, Graph, edge, Leads, Cost, Walk, stay, hop, Distance, costOf, Allows, IsTrue}
+use Rattle.plan.specs.Meaning.{Edge, Atom, Graph, noEdge, edge, Leads, Cost, Walk, stay, hop, Distance, costBy, measureOf, costOf, Allows, IsTrue}
 use Rattle.plan.specs.declared.Kind.{Kind}
-use Rattle.plan.specs.declared.Kind.the-variants.{Reaches, Within}
+use Rattle.plan.specs.declared.Kind.the-variants.{Reaches, Within, LengthAtMost}
+use Rattle.plan.specs.declared.Measure.{Measure}
+use Rattle.plan.specs.declared.Measure.the-variants.{Hops, Lengths}
 use Rattle.plan.proofs.Lists.{le-or-lt, mem-at, at-mem, smallest-below}
 use Rattle.plan.proofs.Bools.{anyOf, or-cases, or-left, or-right, and-both, and-left, and-right, any-some, some-any}
 
@@ -17,11 +19,6 @@ use Rattle.plan.proofs.Bools.{anyOf, or-cases, or-left, or-right, and-b
 module _ {es : List Edge} {g : Graph} where
   pub its-in : {u w : ℕ} (d : Leads es g u w) → List·Memᴰ (edge es (d .number)) es
   its-in d = mem-at es _ (d .number) (d .listed)
-
-  pub leads-by : (e : Edge) → List·Memᴰ e es → T (g e) → Leads es g (e .from) (e .to)
-  leads-by e m t =
-      let q = at-mem es (record { from = 0; to = 0; variable = 0 }) e m in
-      subst (λ x. Leads es g (x .from) (x .to)) (sym (q .2)) (record { number = q .0; listed = q .1; present = subst (λ x. T (g x)) (q .2) t; starts = refl; ends = refl })
 
 -- more edges, more walks
 module _ (c : Cost) (es : List Edge) {f g : Graph} (h : (e : Edge) → List·Memᴰ e es → T (f e) → T (g e)) where
@@ -33,17 +30,21 @@ module _ (c : Cost) (es : List Edge) {f g : Graph} (h : (e : Edge) → List·Mem
   walk-mono stay = stay
   walk-mono (hop r d e) = hop (walk-mono r) (leads-mono d) e
 
--- every edge costs something
+-- every edge costs something, whatever is counted, where every edge has a length
 abbrev pub Pays : Cost → List Edge → Type 0
 Pays c es = (e : Edge) → List·Memᴰ e es → 1 ≤ c e
 
-pub kind-pays : (kind : Kind) (es : List Edge) → Pays (costOf kind) es
-kind-pays kind es e m = omega arith
+abbrev pub Long : List Edge → Type 0
+Long es = (e : Edge) → List·Memᴰ e es → 1 ≤ e .length
+
+pub pays-by : (measure : Measure) (es : List Edge) → Long es → Pays (costBy measure) es
+pays-by Hops es long e m = omega arith
+pays-by Lengths es long e m = long e m
 
 -- a walk by its last edge, which the list has
 pub hop-by : {c : Cost} {es : List Edge} {g : Graph} {s j k : ℕ} (e : Edge) → List·Memᴰ e es → T (g e) → Walk c es g s (e .from) j → k ≡ j + c e → Walk c es g s (e .to) k
 hop-by {c} {es} {g} {s} {j} {k} e m t r q =
-    let p = at-mem es (record { from = 0; to = 0; variable = 0 }) e m in
+    let p = at-mem es noEdge e m in
     let d : Leads es g (e .from) (e .to) = record {
       number = p .0;
       listed = p .1;
@@ -120,18 +121,19 @@ distance-unique {j = j} {k = k} x y = omega (arith, x .fewest k (y .walk), y .fe
 pub allows-less : (kind : Kind) (d j k : ℕ) → j ≤ k → Allows kind d k → Allows kind d j
 allows-less Reaches d j k l h = tt
 allows-less Within d j k l h = omega arith
+allows-less LengthAtMost d j k l h = omega arith
 
 -- an atom is true exactly if some walk to its target costs what is allowed
-module _ (es : List Edge) (g : Graph) (A : Atom) where
+module _ (es : List Edge) (long : Long es) (g : Graph) (A : Atom) where
   abbrev pub Led : Type 0
   Led = (k : ℕ) × Walk (costOf (A .kind)) es g (A .from) (A .to) k × Allows (A .kind) (A .bound) k
 
   pub true-led : IsTrue es g A ↔ Led
   true-led = (
     (λ q. (q .0, q .1 .walk, q .2)),
-    (λ q. let h = distance-of (costOf (A .kind)) es g (A .from) (kind-pays (A .kind) es) (A .to) (q .0) (q .1) in (h .0, h .1, allows-less (A .kind) (A .bound) (h .0) (q .0) (h .2) (q .2))),
+    (λ q. let h = distance-of (costOf (A .kind)) es g (A .from) (pays-by (measureOf (A .kind)) es long) (A .to) (q .0) (q .1) in (h .0, h .1, allows-less (A .kind) (A .bound) (h .0) (q .0) (h .2) (q .2))),
   )
 
 -- what is true in a graph is true in a larger one
-pub true-mono : (es : List Edge) (f g : Graph) (A : Atom) → ((e : Edge) → List·Memᴰ e es → T (f e) → T (g e)) → IsTrue es f A → IsTrue es g A
-true-mono es f g A h x = let q = true-led es f A .0 x in true-led es g A .1 (q .0, walk-mono (costOf (A .kind)) es {f = f} {g = g} h (q .1), q .2)
+pub true-mono : (es : List Edge) → Long es → (f g : Graph) (A : Atom) → ((e : Edge) → List·Memᴰ e es → T (f e) → T (g e)) → IsTrue es f A → IsTrue es g A
+true-mono es long f g A h x = let q = true-led es long f A .0 x in true-led es long g A .1 (q .0, walk-mono (costOf (A .kind)) es {f = f} {g = g} h (q .1), q .2)

@@ -4,10 +4,10 @@ pub mod Closing
 pub mod Search
 pub mod Judging
 pub mod Reason
+pub mod Places
 pub mod Written
 pub mod Tables
 pub mod Buffers
 pub mod Front
-pub mod Places
 pub mod ClauseTable
 pub mod Refusals

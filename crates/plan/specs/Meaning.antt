@@ -9,14 +9,17 @@ use lib.ListN.{length, getD, set}
 use lib.IntN.{ℤ, pos, negsuc, negℤ}
 use lib.Dec.{T, eqb}
 use Rattle.plan.specs.declared.Kind.{Kind}
-use Rattle.plan.specs.declared.Kind.the-variants.{Reaches, Within}
+use Rattle.plan.specs.declared.Kind.the-variants.{Reaches, Within, LengthAtMost}
+use Rattle.plan.specs.declared.Measure.{Measure}
+use Rattle.plan.specs.declared.Measure.the-variants.{Hops, Lengths}
 use Rattle.plan.specs.declared.Side.{Side}
 use Rattle.plan.specs.declared.Side.the-variants.{Under, Over}
 
--- "2 edge: from, to, variable"
+-- "2 edge: from, to, variable"; "Give every edge a length: new tag 6 is an edge with a fourth field, 1 to 65,535, and tag 2 means length 1." (02, C-13)
 pub record Edge : Type 0 where
   pub from : ℕ
   pub to : ℕ
+  pub length : ℕ
   pub variable : ℕ
 
 -- "3 atom: kind, from, to, bound, variable"
@@ -27,13 +30,15 @@ pub record Atom : Type 0 where
   pub bound : ℕ
   pub variable : ℕ
 
--- "Kind 1 is 'reaches' .. Kind 2 is 'within'": a kind's number, and the kind of a number, which is one of these in an accepted file.
+-- "Kind 1 is 'reaches' .. Kind 2 is 'within'"; "New atom kind 3, 'length at most'" (02, C-13): a kind's number, and the kind of a number, which is one
+-- of these in an accepted file.
 abbrev pub numberOfKind : Kind → ℕ
 numberOfKind Reaches = 1
 numberOfKind Within = 2
+numberOfKind LengthAtMost = 3
 
 abbrev pub kindOf : ℕ → Kind
-kindOf n = cond (eqb n 1) Reaches Within
+kindOf n = cond (eqb n 1) Reaches (cond (eqb n 2) Within LengthAtMost)
 
 -- What a plan file says: the head's two numbers, and the edges, atoms and clauses in file order, each sort by itself.
 pub record PlanFile : Type 0 where
@@ -43,13 +48,20 @@ pub record PlanFile : Type 0 where
   pub atoms : List Atom
   pub clauses : List (List ℤ)
 
+-- What stands for an edge that a list does not have.
+abbrev pub noEdge : Edge
+noEdge = record { from = 0; to = 0; length = 0; variable = 0 }
+
 -- The edge numbered k, counted from 0 here; the document counts from 1.
 abbrev pub edge : List Edge → ℕ → Edge
-edge es k = getD es k (record { from = 0; to = 0; variable = 0 })
+edge es k = getD es k noEdge
 
 -- The atom numbered k, counted from 0 here.
+abbrev pub noAtom : Atom
+noAtom = record { kind = Reaches; from = 0; to = 0; bound = 0; variable = 0 }
+
 abbrev pub atom : List Atom → ℕ → Atom
-atom As k = getD As k (record { kind = Reaches; from = 0; to = 0; bound = 0; variable = 0 })
+atom As k = getD As k noAtom
 
 -- A graph has some of the edges.
 abbrev pub Graph : Type 0
@@ -78,20 +90,32 @@ pub record Distance (c : Cost) (es : List Edge) (g : Graph) (s t k : ℕ) : Type
   pub fewest : (j : ℕ) → Walk c es g s t j → k ≤ j
 
 -- "Hops from s to t: the fewest on-edges that lead from s to t; 0 if s = t; none if there is no path.": the distance where each edge costs 1.
+-- "over the smallest sum of lengths" (02, C-13): the distance where each edge costs its length.
 abbrev pub oneHop : Cost
 oneHop e = 1
 
-abbrev pub Hops : List Edge → Graph → ℕ → ℕ → ℕ → Type 0
-Hops es g s t k = Distance oneHop es g s t k
+abbrev pub ownLength : Cost
+ownLength e = e .length
 
--- What the kinds count: hops.
+abbrev pub costBy : Measure → Cost
+costBy Hops = oneHop
+costBy Lengths = ownLength
+
+-- What a kind counts.
+abbrev pub measureOf : Kind → Measure
+measureOf Reaches = Hops
+measureOf Within = Hops
+measureOf LengthAtMost = Lengths
+
 abbrev pub costOf : Kind → Cost
-costOf kind = oneHop
+costOf kind = costBy (measureOf kind)
 
--- "'Reaches' is true if there is a hop count, 'within d' if there is one and it is at most d.": what is asked of the count k.
+-- "'Reaches' is true if there is a hop count, 'within d' if there is one and it is at most d."; 'length at most' d alike: what is asked of the
+-- distance k.
 abbrev pub Allows : Kind → ℕ → ℕ → Type 0
 Allows Reaches d k = T true
 Allows Within d k = k ≤ d
+Allows LengthAtMost d k = k ≤ d
 
 -- The atom is true in the graph. "No path makes 'within d' false for every d."
 abbrev pub IsTrue : List Edge → Graph → Atom → Type 0

@@ -1,6 +1,8 @@
 -- The first place with a property.
 -- Assumes nothing.
-use Prim.Native.Nat.{ℕ, _≤_, _<_}
+use mathlib.Core.Bool.{Bool, cond}
+use mathlib.Core.List.{List, [], _∷_}
+use Prim.Native.Nat.{ℕ, zero, suc, _≤_, _<_}
 
 -- No place from `from` up to `at` has the property P.
 abbrev pub Without : (ℕ → Type 0) → ℕ → ℕ → Type 0
@@ -19,3 +21,8 @@ pub record Found (P : ℕ → Type 0) (from end r : ℕ) : Type 0 where
   pub inside : r < end
   pub before : Without P from r
   pub here : P r
+
+-- The place, from 0, of the first element of a list that fails a test; the list's length where there is none.
+unfoldable pub firstNot : {A : Type 0} → (A → Bool) → List A → ℕ
+firstNot ok [] = zero
+firstNot ok (x ∷ xs) = cond (ok x) (suc (firstNot ok xs)) zero

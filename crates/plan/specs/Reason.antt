@@ -5,13 +5,13 @@ use mathlib.Core.Logic.{_↔_}
 use mathlib.Core.List.{List, [], _∷_, map, List·Memᴰ}
 use Prim.Native.Nat.{ℕ, zero, _+_, _<_}
 use lib.ListN.{length}
-use lib.IntN.{ℤ}
+use lib.IntN.{ℤ, negℤ}
 use lib.Dec.{T}
-use mathlib.Core.Bool.{true, false}
-use Rattle.plan.specs.Meaning.{Edge, Atom, PlanFile, Graph, edge, Cost, Distance, costOf, on, off, trueIn, graphOf}
+use mathlib.Core.Bool.{Bool, true, false}
+use Rattle.plan.specs.Meaning.{Edge, Atom, PlanFile, Graph, edge, Cost, Distance, costOf, on, off, Literals, trueIn, graphOf}
 use Rattle.plan.specs.Closing.{settling, Settles, Settled}
 use Rattle.plan.specs.declared.Kind.{Kind}
-use Rattle.plan.specs.declared.Kind.the-variants.{Reaches, Within}
+use Rattle.plan.specs.declared.Kind.the-variants.{Reaches, Within, LengthAtMost}
 use Rattle.plan.specs.declared.State.the-variants.{Open}
 
 -- The smallest number with the property P.
@@ -29,7 +29,8 @@ pub record Nearer (c : Cost) (es : List Edge) (g : Graph) (s w k j : ℕ) : Type
   pub sum : k ≡ before + c (edge es j)
 
 -- "one path, read back from the target one hop at a time. Each step takes the smallest-numbered on-edge that comes from a node one hop
--- nearer to the source." The edge variables of the path to w, which is so far from s, from the last edge to the first.
+-- nearer to the source."; "a shortest path read back by smallest edge number" (02, C-13). The edge variables of the path to w, which is so far from s,
+-- from the last edge to the first.
 pub data Back (c : Cost) (es : List Edge) (g : Graph) (s : ℕ) : ℕ → ℕ → List ℕ → Type 0 where
   source : Back c es g s s zero []
   step : {w k j : ℕ} {vs : List ℕ} → (f : Smallest (Nearer c es g s w k) j)
@@ -46,14 +47,17 @@ pub record Listed (P : ℕ → Type 0) (vs : List ℕ) : Type 0 where
   pub exact : (v : ℕ) → List·Memᴰ v vs ↔ P v
 
 -- "Fails, kind 1: each off edge whose start is reached in the over graph and whose end is not. Fails, kind 2: each off edge (x, y) where
--- x has over-hops less than d and y has none, or more than x's plus 1." What is asked of x's count k, and, beside it, of each count j of y.
+-- x has over-hops less than d and y has none, or more than x's plus 1."; "kind 2's rule with lengths for hops and the edge's length for 1" (02,
+-- C-13). What is asked of x's distance k, and, beside it, of each distance j of y.
 abbrev pub LeavesAt : Kind → ℕ → ℕ → Type 0
 LeavesAt Reaches d k = T true
 LeavesAt Within d k = k < d
+LeavesAt LengthAtMost d k = k < d
 
 abbrev pub EndsBeyond : Kind → ℕ → ℕ → Type 0
 EndsBeyond Reaches far j = ⊥
 EndsBeyond Within far j = far < j
+EndsBeyond LengthAtMost far j = far < j
 
 -- The edge leads across, in the graph g.
 abbrev pub Across : Kind → List Edge → Graph → ℕ → ℕ → Edge → Type 0
@@ -95,3 +99,12 @@ module _ (φ : PlanFile) (a : List ℤ) (A : Atom) where
   ReasonIs (holds r) = HoldsBy r
   ReasonIs (fails r) = FailsBy r
   ReasonIs neither = Settled φ (trueIn a) A Open
+
+-- A clause's premises are the opposites of its literals behind the first. They alone decide the atom: whatever set of literals has them settles it,
+-- that it holds (true: it is true in the under graph of the premises already) or fails (false: it is false in their over graph already).
+abbrev pub Premises : List ℤ → Literals → Type 0
+Premises [] S = T true
+Premises (x ∷ ls) S = (l : ℤ) → List·Memᴰ l ls → T (S (negℤ l))
+
+abbrev pub Decides : PlanFile → Atom → Bool → List ℤ → Type 0
+Decides φ A b r = (S : Literals) → Premises r S → Settles φ S A b

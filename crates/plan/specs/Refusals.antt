@@ -1,8 +1,8 @@
--- The document's number and returned value of each refusal. Document 01, "Numbers given on refusal"; 20 to 22: document 02, C-11.
+-- The document's number and returned value of each refusal. Document 01, "Numbers given on refusal"; 13: document 02, C-13; 20 to 22: C-11.
 -- Assumes nothing.
 use Prim.Native.Nat.{ℕ}
 use Rattle.plan.specs.declared.Refusal.{Refusal}
-use Rattle.plan.specs.declared.Refusal.the-variants.{TooLong, Cut, Misplaced, UnknownTag, BadLength, OutOfRange, TooMany, Shared, WrongLength, BadValue, NoSuchAtom, NoRoom, BadText, WrongCount, TooManyVariables}
+use Rattle.plan.specs.declared.Refusal.the-variants.{TooLong, Cut, Misplaced, UnknownTag, BadLength, OutOfRange, TooMany, Shared, WrongLength, BadValue, NoSuchAtom, NoRoom, NoBlock, BadText, WrongCount, TooManyVariables}
 
 abbrev pub numberOf : Refusal → ℕ
 numberOf TooLong = 1
@@ -17,6 +17,7 @@ numberOf (WrongLength variables) = 9
 numberOf (BadValue place) = 10
 numberOf (NoSuchAtom atoms) = 11
 numberOf (NoRoom needed) = 12
+numberOf (NoBlock atom) = 13
 numberOf (BadText offset) = 20
 numberOf (WrongCount offset) = 21
 numberOf (TooManyVariables offset) = 22
@@ -34,6 +35,7 @@ valueOf (WrongLength variables) = variables
 valueOf (BadValue place) = place
 valueOf (NoSuchAtom atoms) = atoms
 valueOf (NoRoom needed) = needed
+valueOf (NoBlock atom) = atom
 valueOf (BadText offset) = offset
 valueOf (WrongCount offset) = offset
 valueOf (TooManyVariables offset) = offset

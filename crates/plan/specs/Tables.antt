@@ -12,12 +12,13 @@ use Rattle.plan.specs.declared.Plan.{Plan}
 use Rattle.plan.specs.declared.Edge as struct-of-edge
 use Rattle.plan.specs.declared.Atom as struct-of-atom
 
--- three numbers for an edge: from, to, variable
+-- four numbers for an edge: from, to, length, variable
 unfoldable pub edgesOf : List ℕ → List Edge
 edgesOf [] = []
 edgesOf (f ∷ []) = []
 edgesOf (f ∷ t ∷ []) = []
-edgesOf (f ∷ t ∷ v ∷ r) = record { from = f; to = t; variable = v } ∷ edgesOf r
+edgesOf (f ∷ t ∷ l ∷ []) = []
+edgesOf (f ∷ t ∷ l ∷ v ∷ r) = record { from = f; to = t; length = l; variable = v } ∷ edgesOf r
 
 -- five numbers for an atom: its kind's number, from, to, bound, variable
 unfoldable pub atomsOf : List ℕ → List Atom
@@ -42,7 +43,7 @@ clausesOf (negsuc n ∷ r) = inFront (negsuc n) (clausesOf r)
 
 -- The code's structs as the records of the meaning.
 abbrev pub edgeOf : struct-of-edge.Edge → Edge
-edgeOf e = record { from = e .from; to = e .to; variable = e .variable }
+edgeOf e = record { from = e .from; to = e .to; length = e .length; variable = e .variable }
 
 abbrev pub atomOf : struct-of-atom.Atom → Atom
 atomOf A = record { kind = A .kind; from = A .from; to = A .to; bound = A .bound; variable = A .variable }
@@ -60,7 +61,7 @@ planOf p es bs cs = record { nodes = p .nodes; variables = p .variables; edges =
 -- What the reader guarantees of the tables that are lent on, cut to their used parts.
 pub record Lent (p : Plan) (es bs : List ℕ) (cs : List ℤ) : Type 0 where
   pub ranged : Ranged (planOf p es bs cs)
-  pub edges : length es ≡ p .edges * 3
+  pub edges : length es ≡ p .edges * 4
   pub atoms : length bs ≡ p .atoms * 5
   pub clauses : length (clausesOf cs) ≡ p .clauses
   pub literals : literals (clausesOf cs) ≡ p .literals

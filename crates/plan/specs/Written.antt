@@ -1,14 +1,15 @@
 -- The file written out as clauses: its own clauses, then a block for each atom. Document 01, "Writing out clauses".
 -- Assumes nothing.
 use mathlib.Core.Path.{_≡_}
-use mathlib.Core.Bool.{cond}
+use mathlib.Core.Bool.{Bool, true, false, cond}
 use mathlib.Core.List.{List, [], _∷_, _++_, List·Memᴰ}
 use Prim.Native.Nat.{ℕ, zero, suc, _+_, _*_, _-_, min}
 use lib.ListN.{length}
 use lib.IntN.{ℤ, pos}
-use lib.Dec.{eqb}
+use lib.Dec.{T, eqb}
 use Rattle.plan.specs.declared.Kind.{Kind}
-use Rattle.plan.specs.declared.Kind.the-variants.{Reaches, Within}
+use Rattle.plan.specs.declared.Kind.the-variants.{Reaches, Within, LengthAtMost}
+use Rattle.plan.specs.Places.{firstNot}
 use Rattle.plan.specs.Meaning.{Edge, Atom, PlanFile, edge, on, off, HasTrue, Full, IsPlan}
 
 -- f 0, then f 1, and so on to f (n - 1): "Nodes and edges go in rising number."
@@ -64,10 +65,24 @@ module _ (n : ℕ) (es : List Edge) (base : ℕ) where
   unfoldable pub block : ℕ → ℕ → ℕ → ℕ → List (List ℤ)
   block L s t a = startClauses s ++ (each L levelClauses ++ endClauses L t a)
 
--- "L = n - 1 for kind 1, the lesser of bound and n - 1 for kind 2"
+-- The kinds that have a block. "demand 3 covers files without it" (02, C-13): the others are refused before anything is written.
+abbrev pub hasBlock : Kind → Bool
+hasBlock Reaches = true
+hasBlock Within = true
+hasBlock LengthAtMost = false
+
+abbrev pub AllHaveBlocks : List Atom → Type 0
+AllHaveBlocks As = (A : Atom) → List·Memᴰ A As → T (hasBlock (A .kind))
+
+-- The place, from 0, of the first atom without one; their count where each has one.
+abbrev pub firstUnwritten : List Atom → ℕ
+firstUnwritten As = firstNot (λ A. hasBlock (A .kind)) As
+
+-- "L = n - 1 for kind 1, the lesser of bound and n - 1 for kind 2"; nothing asks for the levels of a kind without a block
 abbrev pub levelsOf : ℕ → Kind → ℕ → ℕ
 levelsOf n Reaches bound = n - 1
 levelsOf n Within bound = min bound (n - 1)
+levelsOf n LengthAtMost bound = 0
 
 unfoldable pub levels : ℕ → Atom → ℕ
 levels n A = levelsOf n (A .kind) (A .bound)

@@ -5,7 +5,7 @@ ghost use mathlib.Core.Path.{_≡_};
 ghost use Prim.Native.Nat.{_+_, _*_, _<_, _≤_};
 ghost use lib.IntN.{pos, negsuc, negℤ, natAbs};
 ghost use lib.ListN.{length, replicate};
-ghost use Rattle.plan.specs.Meaning.{add, edge, atom, numberOfKind, kindOf, literalOf, trueIn};
+ghost use Rattle.plan.specs.Meaning.{add, edge, atom, numberOfKind, kindOf, measureOf, costBy, literalOf, trueIn};
 ghost use Rattle.plan.specs.Closing.{settling};
 ghost use Rattle.plan.specs.Search.{Assigned};
 ghost use Rattle.plan.specs.Ranged.{LiteralFits};
@@ -27,15 +27,23 @@ pub enum Refusal {
     BadValue(usize),
     NoSuchAtom(usize),
     NoRoom(usize),
+    NoBlock(usize),
     BadText(usize),
     WrongCount(usize),
     TooManyVariables(usize),
 }
 
-// What an atom says of its two sites: that there is a path, or one of so many hops at the most.
+// What an atom says of its two sites: that there is a path, or one of so many hops, or of such a length, at the most.
 pub enum Kind {
     Reaches,
     Within,
+    LengthAtMost,
+}
+
+// What is counted along a path.
+pub enum Measure {
+    Hops,
+    Lengths,
 }
 
 // A graph of a partial assignment: the edges that are on, or those that are not off.
@@ -74,11 +82,14 @@ impl Plan {
 pub struct Edge {
     pub from: u16,
     pub to: u16,
+    pub length: u16,
     pub variable: u16,
 }
 
 impl Edge {
-    pub const NUMBERS: usize = 3;
+    pub const MAX_LENGTH: u16 = 65535;
+
+    pub const NUMBERS: usize = 4;
 
     pub const TABLE: usize = Plan::MAX_EDGES * Edge::NUMBERS;
 }
@@ -95,6 +106,8 @@ impl Atom {
     pub const MAX: usize = 64;
 
     pub const MAX_BOUND: u16 = 255;
+
+    pub const MAX_LENGTH_BOUND: u16 = 65535;
 
     pub const NUMBERS: usize = 5;
 
@@ -233,14 +246,15 @@ pub fn put(values: &mut [i8], literal: i16)
 
 // The edge numbered k, from 0, of an edge table.
 pub fn edge_at(edges: &[u16], k: usize) -> Edge
-    requires { ⌜ k * 3 + 2 < length (now edges) ⌝ }
+    requires { ⌜ k * 4 + 3 < length (now edges) ⌝ }
     ensures { λ r. ⌜ edgeOf r ≡ edge (edgesOf (now (edges .entry))) k ⌝ }
 {
     let at = k * Edge::NUMBERS;
     Edge {
         from: edges[at],
         to: edges[at + 1],
-        variable: edges[at + 2],
+        length: edges[at + 2],
+        variable: edges[at + 3],
     }
 }
 
@@ -251,7 +265,10 @@ pub fn kind_of(number: u16) -> Kind
     if number == 1 {
         return Kind::Reaches;
     }
-    Kind::Within
+    if number == 2 {
+        return Kind::Within;
+    }
+    Kind::LengthAtMost
 }
 
 // The number of a kind, in a file and in a table.
@@ -261,6 +278,28 @@ pub fn number_of_kind(kind: Kind) -> u16
     match kind {
         Kind::Reaches => 1,
         Kind::Within => 2,
+        Kind::LengthAtMost => 3,
+    }
+}
+
+// What a kind counts.
+pub fn measure_of(kind: Kind) -> Measure
+    ensures { λ r. ⌜ r ≡ measureOf kind ⌝ }
+{
+    match kind {
+        Kind::Reaches => Measure::Hops,
+        Kind::Within => Measure::Hops,
+        Kind::LengthAtMost => Measure::Lengths,
+    }
+}
+
+// What an edge adds to a path.
+pub fn cost_by(measure: Measure, edge: Edge) -> u64
+    ensures { λ r. ⌜ r ≡ costBy measure (edgeOf edge) ⌝ }
+{
+    match measure {
+        Measure::Hops => 1,
+        Measure::Lengths => edge.length as u64,
     }
 }
 
@@ -318,6 +357,7 @@ pub fn number_of(refusal: Refusal) -> usize
         Refusal::BadValue(_) => 10,
         Refusal::NoSuchAtom(_) => 11,
         Refusal::NoRoom(_) => 12,
+        Refusal::NoBlock(_) => 13,
         Refusal::BadText(_) => 20,
         Refusal::WrongCount(_) => 21,
         Refusal::TooManyVariables(_) => 22,
@@ -341,6 +381,7 @@ pub fn returned_by(refusal: Refusal) -> usize
         Refusal::BadValue(place) => place,
         Refusal::NoSuchAtom(atoms) => atoms,
         Refusal::NoRoom(needed) => needed,
+        Refusal::NoBlock(atom) => atom,
         Refusal::BadText(offset) => offset,
         Refusal::WrongCount(offset) => offset,
         Refusal::TooManyVariables(offset) => offset,

@@ -2,16 +2,16 @@
 -- A public call's own statement is the `ensures` of its function in src/lib.rt, in the words of specs/. "01" is document 01.
 -- Assumes nothing.
 use mathlib.Core.Path.{_≡_}
-use mathlib.Core.Bool.{true}
+use mathlib.Core.Bool.{true, false}
 use mathlib.Core.Logic.{_⊎_}
 use mathlib.Core.List.{List, [], _∷_, _++_, List·Memᴰ}
 use mathlib.Core.Option.{some}
 use Prim.Native.Nat.{ℕ, suc, _+_, _-_, _*_, _/_, _^_, _≤_, _<_}
 use lib.IntN.{ℤ, pos}
 use lib.ListN.{length, take}
-use Rattle.plan.specs.Meaning.{PlanFile, Atom, Full, HasTrue, IsRight, IsPlan}
+use Rattle.plan.specs.Meaning.{Edge, Graph, PlanFile, Atom, Cost, Walk, Distance, costOf, IsTrue, Full, HasTrue, IsRight, IsPlan}
 use Rattle.plan.specs.Ranged.{maxClauses, InRange, Ranged}
-use Rattle.plan.specs.Reason.{holds, fails, ReasonIs}
+use Rattle.plan.specs.Reason.{holds, fails, ReasonIs, Decides}
 use Rattle.plan.specs.Search.{opens, Closes, Outcome, Tree, Before}
 use Rattle.plan.specs.Tables.{clausesOf}
 use Rattle.plan.specs.Written.{each, flat, blocks, written, lastVariable, Satisfies, ExactlyOne}
@@ -108,10 +108,26 @@ accepted-in-range = accepts.read-ranged
 -- 01, "Judging and reasons": "Such a clause is true in every assignment where that atom's variable equals its truth."
 module _ (φ : PlanFile) (ok : Ranged φ) (a : List ℤ) (A : Atom) (is-atom : List·Memᴰ A (φ .atoms)) (b : List ℤ) (full : Full (φ .variables) b) (right : IsRight φ b A) (clause : List ℤ) where
   pub holds-clause-true : ReasonIs φ a A (holds clause) → HasTrue b clause
-  holds-clause-true = reasons.holds-true φ ok a A is-atom b full right clause
+  holds-clause-true = reasons.reason-true φ ok a A is-atom b full right (holds clause)
 
   pub fails-clause-true : ReasonIs φ a A (fails clause) → HasTrue b clause
-  fails-clause-true = reasons.fails-true φ ok a A is-atom b full right clause
+  fails-clause-true = reasons.reason-true φ ok a A is-atom b full right (fails clause)
+
+-- Its premises alone decide the atom, whatever its kind: it is true in the under graph of the premises already, or false in their over graph.
+module _ (φ : PlanFile) (ok : Ranged φ) (a : List ℤ) (A : Atom) (is-atom : List·Memᴰ A (φ .atoms)) (clause : List ℤ) where
+  pub holds-decided : ReasonIs φ a A (holds clause) → Decides φ A true clause
+  holds-decided = reasons.decided φ ok a A (ok .atom A is-atom .from-in) (holds clause)
+
+  pub fails-decided : ReasonIs φ a A (fails clause) → Decides φ A false clause
+  fails-decided = reasons.decided φ ok a A (ok .atom A is-atom .from-in) (fails clause)
+
+-- "none if there is no path", for lengths as for hops: where no walk leads no number is the distance, and "No path makes 'within d' false for every d.",
+-- 'length at most' d too.
+pub no-path-no-distance : (c : Cost) (es : List Edge) (g : Graph) (s t : ℕ) → ((k : ℕ) → Walk c es g s t k → ⊥) → (k : ℕ) → Distance c es g s t k → ⊥
+no-path-no-distance c es g s t none k d = none k (d .walk)
+
+pub no-path-false : (es : List Edge) (g : Graph) (A : Atom) → ((k : ℕ) → Walk (costOf (A .kind)) es g (A .from) (A .to) k → ⊥) → IsTrue es g A → ⊥
+no-path-false es g A none h = none (h .0) (h .1 .walk)
 
 -- Demand 2: plan, impossible and undecided are exactly right; a plan is the first; the count is exact. First: B, "the count of the whole
 -- search without a budget", is there.

@@ -4,21 +4,24 @@ use mathlib.Core.Path.{_≡_, refl, sym, ap, _∙_, subst}
 use mathlib.Core.Bool.{Bool, true, false, cond, false≢true, _&&_}
 use mathlib.Core.Logic.{_⊎_, inl, inr}
 use mathlib.Core.List.{List, [], _∷_}
-use Prim.Native.Nat.{ℕ, zero, suc, _≤_, _<_}
+use Prim.Native.Nat.{ℕ, zero, suc, _+_, _≤_, _<_}
 use native.Mathlib.Omega.{arith}
 use lib.IntN.{ℤ, pos, negsuc}
-use lib.Dec.{leb}
-use borrow.Author.Tests.{eq-eqb, ne-eqb, le-leb, lt-leb}
+use lib.Dec.{eqb, leb}
+use borrow.Author.Tests.{eq-eqb, ne-eqb, eqb-true, le-leb, lt-leb}
 use lib.ListN.{length, getD}
 use Rattle.plan.specs.Meaning.{PlanFile, Full}
+use Rattle.plan.specs.Places.{firstNot}
 use Rattle.plan.specs.Search.{Assigned}
+use Rattle.plan.specs.Written.{hasBlock, AllHaveBlocks, firstUnwritten}
+use Rattle.plan.proofs.Places.{all-pass}
 use Rattle.plan.specs.Refusals.{numberOf, valueOf}
 use Rattle.plan.specs.declared.Refusal.{Refusal}
 use Rattle.reader.specs.Format.{Reading, refused, accepted, readPlan}
 use Rattle.reader.specs.Filling.{Answers}
 use Rattle.reader.specs.declared.ReadAnswer.{ReadAnswer}
 use Rattle.reader.specs.declared.ReadAnswer.the-variants.{Refused}
-use Rattle.planner.specs.Refusing.{Met, refusal, Case, By, Refuses, require, afterReading, requireLength, requireValues, requireAtom, isSet, isValue, firstNot}
+use Rattle.planner.specs.Refusing.{Met, refusal, Case, By, Refuses, require, afterReading, requireLength, requireValues, requireAtom, requireBlocks, isSet, isValue}
 
 -- a statement holds if its case does at what is met
 pub meets : {m n : Met} {R : ℕ → ℕ → Type 0} {C : PlanFile → Type 0} → m ≡ n → Case R C n → By m R C
@@ -78,6 +81,23 @@ module _ (φ : PlanFile) (k : ℕ) (m : Met) {n : ℕ} (is : length (φ .atoms) 
 
   pub atom-holds : 1 ≤ k → k ≤ n → requireAtom φ k m ≡ m
   atom-holds l h = ap (λ (x : Bool). tests (x && leb k (length (φ .atoms)))) (le-leb 1 k l) ∙ ap tests (le-leb k (length (φ .atoms)) (omega (arith, is)))
+
+module _ (φ : PlanFile) (m : Met) {k n : ℕ} (is : k ≡ firstUnwritten (φ .atoms)) (count : length (φ .atoms) ≡ n) where
+  pub blocks-fail : (k ≡ n → ⊥) → requireBlocks φ m ≡ refusal 13 (k + 1)
+  blocks-fail h =
+      ap (λ (b : Bool). require b 13 (firstUnwritten (φ .atoms) + 1) m) (ne-eqb (firstUnwritten (φ .atoms)) (length (φ .atoms)) (λ e. h (is ∙ e ∙ count)))
+      ∙ ap (λ (j : ℕ). refusal 13 (j + 1)) (sym is)
+
+  pub blocks-hold : k ≡ n → requireBlocks φ m ≡ m
+  blocks-hold h = ap (λ (b : Bool). require b 13 (firstUnwritten (φ .atoms) + 1) m) (eq-eqb (firstUnwritten (φ .atoms)) (length (φ .atoms)) (sym is ∙ h ∙ sym count))
+
+-- where no refusal fits the answer, every atom has a block, and the other checks go on
+pub blocks-met : (φ : PlanFile) (m : Met) (R : ℕ → ℕ → Type 0) (C : PlanFile → Type 0) → ((n v : ℕ) → R n v → ⊥) → Case R C (requireBlocks φ m) → AllHaveBlocks (φ .atoms) × Case R C m
+blocks-met φ m R C never h = go (eqb (firstUnwritten (φ .atoms)) (length (φ .atoms))) refl h
+  where
+    go : (b : Bool) → eqb (firstUnwritten (φ .atoms)) (length (φ .atoms)) ≡ b → Case R C (require b 13 (firstUnwritten (φ .atoms) + 1) m) → AllHaveBlocks (φ .atoms) × Case R C m
+    go true e k = (all-pass (λ A. hasBlock (A .kind)) (φ .atoms) (eqb-true (firstUnwritten (φ .atoms)) (length (φ .atoms)) e), k)
+    go false e k = absurd (never 13 (firstUnwritten (φ .atoms) + 1) k)
 
 module _ (m : Met) (n k : ℕ) where
   pub room-fails : k < n → require (leb n k) 12 n m ≡ refusal 12 n

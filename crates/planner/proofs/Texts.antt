@@ -14,12 +14,12 @@ use lib.Seq.{take-at}
 use Rattle.plan.specs.Meaning.{PlanFile}
 use Rattle.plan.specs.Buffers.{Kept}
 use Rattle.plan.specs.Ranged.{literals}
-use Rattle.plan.specs.Written.{written, lastVariable, ExactlyOne}
+use Rattle.plan.specs.Written.{AllHaveBlocks, written, lastVariable, ExactlyOne}
 use Rattle.encoding.proofs.Continued.{exactly-one}
 use Rattle.reader.specs.Format.{Reading, refused as file-refused, accepted, withClauses, readPlan}
 use Rattle.reader.proofs.Accepts.{read-ranged}
 use Rattle.reader.proofs.Inserting.{Joins}
-use Rattle.reader.proofs.Runs.{size}
+use Rattle.reader.proofs.Runs.{read-runs}
 use Rattle.dimacs.specs.Reading.{Rule, Rules, refused, rules, good, readText, literalsOf}
 use Rattle.dimacs.specs.Records.{records, inserted}
 use Rattle.dimacs.proofs.RecordSizes.{records-length}
@@ -33,20 +33,34 @@ use Rattle.planner.specs.Refusing.{Met, clear, require, afterReading, Re
 use Rattle.planner.specs.WriteDimacs.{printChecks, TextWritten, PrintCase, PrintBy, PrintedIs}
 use Rattle.planner.specs.ReadDimacs.{rulesFor, withRoom, rulesChecks, RulesWritten, RulesCase, RulesBy, RulesReadIs}
 use Rattle.planner.proofs.Inserting.{inserted-reads}
-use Rattle.planner.proofs.Stating.{met, checked}
+use Rattle.planner.proofs.Stating.{met, checked, blocks-met}
 
--- what the call met, where it printed
-printed-clear : (φ : PlanFile) (before after : List ℕ) (n : ℕ) → PrintBy (printChecks before φ) before after (print.Printed n) → TextWritten φ before after n
-printed-clear φ before after n h = go (leb (length (text φ)) (length before)) (h .case)
+-- what the call met, where it printed: no kind without a block, and room
+no-refusal : {k w n : ℕ} → Refuses print.Refused k w (print.Printed n) → ⊥
+no-refusal h = let e = h .is in let z : _≡_ {A = ℕ} 0 1 = cc in omega arith
+
+printed-clear : (φ : PlanFile) (before after : List ℕ) (n : ℕ) → PrintBy (printChecks before φ) before after (print.Printed n) → AllHaveBlocks (φ .atoms) × TextWritten φ before after n
+printed-clear φ before after n h = let q = blocks-met φ (room (leb (length (text φ)) (length before))) R C (λ k w x. no-refusal (x .0)) (h .case) in (q .0, go (leb (length (text φ)) (length before)) (q .1))
   where
-    go : (b : Bool) → Case (λ k w. Refuses print.Refused k w (print.Printed n) × Kept before after) (λ ψ. PrintCase ψ before after (print.Printed n)) (require b 12 (length (text φ)) (clear φ))
-        → TextWritten φ before after n
+    room : Bool → Met
+    room b = require b 12 (length (text φ)) (clear φ)
+
+    R : ℕ → ℕ → Type 0
+    R k w = Refuses print.Refused k w (print.Printed n) × Kept before after
+
+    C : PlanFile → Type 0
+    C ψ = PrintCase ψ before after (print.Printed n)
+
+    go : (b : Bool) → Case R C (room b) → TextWritten φ before after n
     go true k = k
-    go false k = let e = k .0 .is in let z : _≡_ {A = ℕ} 0 1 = cc in absurd (omega arith)
+    go false k = absurd (no-refusal (k .0))
 
 module _ (file : List ℕ) (φ : PlanFile) (reads : readPlan file ≡ accepted φ) (before after : List ℕ) (n : ℕ) (h : PrintedIs file before after (print.Printed n)) where
+  clear-out : AllHaveBlocks (φ .atoms) × TextWritten φ before after n
+  clear-out = printed-clear φ before after n (record { case = met (checked file (printChecks before) reads) h })
+
   out : TextWritten φ before after n
-  out = printed-clear φ before after n (record { case = met (checked file (printChecks before) reads) h })
+  out = clear-out .1
 
   pub text-stands : take n after ≡ text φ
   text-stands = ap (λ (k : ℕ). take k after) (out .count) ∙ ap (take (length (text φ))) (out .wrote) ∙ take-at (text φ) (drop (length (text φ)) before) _ refl
@@ -57,7 +71,7 @@ module _ (file : List ℕ) (φ : PlanFile) (reads : readPlan file ≡ accepted �
   -- the text reads back as the written-out clauses, which have exactly one continuation for each plan
   pub text-reads-back : (rs : List Rule) × (readText (take n after) ≡ good 0 (lastVariable φ) (length (written φ)) rs) × (literalsOf rs ≡ written φ) × ExactlyOne φ (literalsOf rs) (lastVariable φ)
   text-reads-back =
-      (back .of, back .is, back .are, subst (λ (Cs : List (List ℤ)). ExactlyOne φ Cs (lastVariable φ)) (sym (back .are)) (exactly-one φ (read-ranged file φ reads)))
+      (back .of, back .is, back .are, subst (λ (Cs : List (List ℤ)). ExactlyOne φ Cs (lastVariable φ)) (sym (back .are)) (exactly-one φ (read-ranged file φ reads) (clear-out .0)))
 
 -- what the call met, where it gave rules: there was room for their records
 pub record Given (φ : PlanFile) (lines before after : List ℕ) (c l : ℕ) : Type 0 where
@@ -133,4 +147,4 @@ module _ (file : List ℕ) (φ : PlanFile) (reads : readPlan file ≡ accepted �
 pub joinable : (file lines before after : List ℕ) (c l : ℕ) → RulesReadIs file lines before after (read.Rules c l) → (3 ≤ length file) × (3 * c + 2 * l ≤ length before)
 joinable file lines before after c l h =
     let a = rules-reads file lines before after c l h in
-    (omega (arith, size file (a .1)), records-fit file (a .0) (a .1) lines before after c l h)
+    (omega (arith, read-runs (a .1) .ended .last), records-fit file (a .0) (a .1) lines before after c l h)

@@ -1,19 +1,21 @@
 -- No second answer, and no second contents of a lent buffer, fits the statement of a public call. One law over all calls: where nothing is
 -- refused, the answer and the buffer are what an outcome tells, and there is one outcome.
 -- Assumes nothing.
-use mathlib.Core.Path.{_≡_, refl, sym, _∙_, ap}
-use mathlib.Core.Bool.{Bool, cond}
+use mathlib.Core.Path.{_≡_, refl, sym, subst, _∙_, ap}
+use mathlib.Core.Bool.{Bool, true, false, cond, _&&_}
 use mathlib.Core.Logic.{inl, inr}
 use mathlib.Core.List.{List, _++_}
 use Prim.Native.Nat.{ℕ, _-_, _<_}
+use native.Mathlib.Omega.{arith}
 use lib.ListN.{length, drop}
 use lib.IntN.{ℤ}
-use lib.Dec.{leb}
+use lib.Dec.{eqb, leb}
 use borrow.Author.Tests.{le-leb, lt-leb}
 use Rattle.plan.specs.Buffers.{Answered}
 use Rattle.plan.specs.Meaning.{PlanFile, atom, trueIn}
 use Rattle.plan.specs.Buffers.{Kept}
 use Rattle.plan.specs.Judging as judging
+use Rattle.plan.specs.Places.{firstNot}
 use Rattle.plan.specs.Reason.{Reason, holds, fails, neither, ReasonIs}
 use Rattle.plan.specs.Search.{Outcome, nothing, found, CloseIs, Answer, decided, undecided, Searched}
 use Rattle.plan.specs.Written.{flat, written, lastVariable}
@@ -26,11 +28,13 @@ use Rattle.plan.proofs.Closing.{not-both}
 use Rattle.plan.proofs.Search.{closes-unique}
 use Rattle.plan.proofs.Budget.{searched-unique}
 use Rattle.plan.proofs.Reason as reasons
-use Rattle.plan.specs.Ranged.{literals}
+use Rattle.plan.specs.Ranged.{literals, Ranged}
 use Rattle.dimacs.specs.Reading.{Rule, rules, literalsOf}
 use Rattle.dimacs.specs.Records.{records}
 use Rattle.dimacs.proofs.Ruled.{rulesIn}
 use Rattle.listing.specs.Text.{text}
+use Rattle.reader.specs.Format.{Reading, refused as not-read, accepted, readPlan}
+use Rattle.reader.proofs.Accepts.{read-ranged}
 use Rattle.reader.specs.declared.ReadAnswer.{ReadAnswer}
 use Rattle.reader.specs.declared.ReadAnswer.the-variants as read
 use Rattle.planner.specs.declared.JudgeAnswer.{JudgeAnswer}
@@ -47,11 +51,11 @@ use Rattle.planner.specs.declared.WriteDimacsAnswer.{WriteDimacsAnswer}
 use Rattle.planner.specs.declared.WriteDimacsAnswer.the-variants as print
 use Rattle.planner.specs.declared.ReadDimacsAnswer.{ReadDimacsAnswer}
 use Rattle.planner.specs.declared.ReadDimacsAnswer.the-variants as dimacs
-use Rattle.planner.specs.Refusing.{Met, refusal, clear, Names, Refuses, Case, By, KeepingBy}
+use Rattle.planner.specs.Refusing.{Met, refusal, clear, require, afterReading, requireValues, requireAtom, isValue, Names, Refuses, Case, By, KeepingBy}
 use Rattle.planner.specs.Read.{Counts, ReadCase, ReadIs}
 use Rattle.planner.specs.Judge.{JudgeCase, JudgeIs}
 use Rattle.planner.specs.Close.{CloseCase, ClosedIs}
-use Rattle.planner.specs.Reason.{ReasonCase, ReasonedIs}
+use Rattle.planner.specs.Reason.{reasonChecks, ReasonCase, ReasonedIs}
 use Rattle.planner.specs.Search.{allOpen, SearchCase, SearchedIs}
 use Rattle.planner.specs.WriteClauses.{WriteCase, WrittenIs}
 use Rattle.planner.specs.WriteDimacs.{PrintCase, PrintedIs}
@@ -74,28 +78,32 @@ pub record Told {O X : Type 0} (Leads : O → Type 0) (tell : O → X) (x : X) :
   pub is : Leads of
   pub told : x ≡ tell of
 
-module _ {A O : Type 0} (refused : Refusal → A) (Leads : PlanFile → O → Type 0) (one : (φ : PlanFile) (o p : O) → Leads φ o → Leads φ p → o ≡ p) where
-  one-told : {X : Type 0} (φ : PlanFile) (tell : O → X) {x y : X} → Told (Leads φ) tell x → Told (Leads φ) tell y → x ≡ y
-  one-told φ tell h k = h .told ∙ ap tell (one φ (h .of) (k .of) (h .is) (k .is)) ∙ sym (k .told)
+module _ {A O : Type 0} (refused : Refusal → A) (Leads : PlanFile → O → Type 0) where
+  -- there is one outcome where nothing is refused
+  abbrev OneOutcome : Met → Type 0
+  OneOutcome m = (φ : PlanFile) → m ≡ clear φ → (o p : O) → Leads φ o → Leads φ p → o ≡ p
+
+  one-told : {X : Type 0} {m : Met} → OneOutcome m → (φ : PlanFile) → m ≡ clear φ → (tell : O → X) {x y : X} → Told (Leads φ) tell x → Told (Leads φ) tell y → x ≡ y
+  one-told one φ e tell h k = h .told ∙ ap tell (one φ e (h .of) (k .of) (h .is) (k .is)) ∙ sym (k .told)
 
   -- a call without a lent buffer
-  unique : (tell : O → A) (C : A → PlanFile → Type 0) → ((φ : PlanFile) (r : A) → C r φ → Told (Leads φ) tell r) → {m : Met} (r s : A)
+  unique : {m : Met} → OneOutcome m → (tell : O → A) (C : A → PlanFile → Type 0) → ((φ : PlanFile) (r : A) → C r φ → Told (Leads φ) tell r) → (r s : A)
       → By m (λ n v. Refuses refused n v r) (C r) → By m (λ n v. Refuses refused n v s) (C s) → r ≡ s
-  unique tell C led {m} r s h k = go m (h .case) (k .case)
+  unique {m} one tell C led r s h k = go m refl (h .case) (k .case)
     where
-      go : (m : Met) → Case (λ n v. Refuses refused n v r) (C r) m → Case (λ n v. Refuses refused n v s) (C s) m → r ≡ s
-      go (refusal n v) x y = one-refuses x y
-      go (clear φ) x y = one-told φ tell (led φ r x) (led φ s y)
+      go : (m′ : Met) → m ≡ m′ → Case (λ n v. Refuses refused n v r) (C r) m′ → Case (λ n v. Refuses refused n v s) (C s) m′ → r ≡ s
+      go (refusal n v) e x y = one-refuses x y
+      go (clear φ) e x y = one-told one φ e tell (led φ r x) (led φ s y)
 
   -- a call with one
-  unique-left : {B : Type 0} (tell : O → A × List B) (before : List B) (C : A → List B → PlanFile → Type 0) → ((φ : PlanFile) (r : A) (after : List B) → C r after φ → Told (Leads φ) tell (r, after)) → {m : Met}
-      → OneLeft (λ after r. KeepingBy m refused (C r after) before after r)
-  unique-left tell before C led {m} after after′ r s h k = go m (h .case) (k .case)
+  unique-left : {B : Type 0} {m : Met} → OneOutcome m → (tell : O → A × List B) (before : List B) (C : A → List B → PlanFile → Type 0)
+      → ((φ : PlanFile) (r : A) (after : List B) → C r after φ → Told (Leads φ) tell (r, after)) → OneLeft (λ after r. KeepingBy m refused (C r after) before after r)
+  unique-left {m = m} one tell before C led after after′ r s h k = go m refl (h .case) (k .case)
     where
-      go : (m : Met) → Case (λ n v. Refuses refused n v r × Kept before after) (C r after) m → Case (λ n v. Refuses refused n v s × Kept before after′) (C s after′) m
+      go : (m′ : Met) → m ≡ m′ → Case (λ n v. Refuses refused n v r × Kept before after) (C r after) m′ → Case (λ n v. Refuses refused n v s × Kept before after′) (C s after′) m′
           → (r ≡ s) × (after ≡ after′)
-      go (refusal n v) x y = (one-refuses (x .0) (y .0), x .1 ∙ sym (y .1))
-      go (clear φ) x y = let e = one-told φ tell (led φ r after x) (led φ s after′ y) in (ap (λ z. z .0) e, ap (λ z. z .1) e)
+      go (refusal n v) e x y = (one-refuses (x .0) (y .0), x .1 ∙ sym (y .1))
+      go (clear φ) e x y = let q = one-told one φ e tell (led φ r after x) (led φ s after′ y) in (ap (λ z. z .0) q, ap (λ z. z .1) q)
 
 kept : {A B : Type 0} {r : A} {before after : List B} → after ≡ before → _≡_ {A = A × List B} (r, after) (r, before)
 kept {r = r} e = ap (λ z. (r, z)) e
@@ -117,7 +125,7 @@ read-led φ (read.Refused y) h = absurd h
 read-led φ (read.Accepted p) h = record { of = p; is = h; told = refl }
 
 pub read-unique : (file : List ℕ) (r s : ReadAnswer) → ReadIs file r → ReadIs file s → r ≡ s
-read-unique file r s h k = unique read.Refused Counts one-count read.Accepted (λ r φ. ReadCase φ r) read-led r s h k
+read-unique file r s h k = unique read.Refused Counts (λ φ e. one-count φ) read.Accepted (λ r φ. ReadCase φ r) read-led r s h k
 
 -- ---- judge
 
@@ -134,7 +142,7 @@ module _ (a : List ℤ) where
   judge-led φ (judge.Atom k) h = record { of = judging.wrong k; is = h; told = refl }
 
 pub judge-unique : (file : List ℕ) (a : List ℤ) (r s : JudgeAnswer) → JudgeIs file a r → JudgeIs file a s → r ≡ s
-judge-unique file a r s h k = unique judge.Refused (λ φ. judging.Judged φ a) (λ φ. judged-unique φ a) toldJudge (λ r φ. JudgeCase φ a r) (judge-led a) r s h k
+judge-unique file a r s h k = unique judge.Refused (λ φ. judging.Judged φ a) (λ φ e. judged-unique φ a) toldJudge (λ r φ. JudgeCase φ a r) (judge-led a) r s h k
 
 -- ---- close
 
@@ -156,7 +164,7 @@ module _ (given before : List ℤ) where
 
 pub close-unique : (file : List ℕ) (given before : List ℤ) → OneLeft (ClosedIs file given before)
 close-unique file given before =
-    unique-left close.Refused (λ φ. CloseIs φ given) (one-close given before) (toldClose given before) before (λ r after φ. CloseCase φ given before after r) (close-led given before)
+    unique-left close.Refused (λ φ. CloseIs φ given) (λ φ e. one-close given before φ) (toldClose given before) before (λ r after φ. CloseCase φ given before after r) (close-led given before)
 
 -- ---- reason
 
@@ -193,9 +201,29 @@ module _ (a : List ℤ) (k : ℕ) (before : List ℤ) where
   reason-led φ (reason.Fails n) after h = record { of = fails (h .0); is = h .1; told = written-out reason.Fails (h .0) after n (h .2) }
   reason-led φ reason.Open after h = record { of = neither; is = h .0; told = kept (h .1) }
 
+-- a file with nothing in the way of a reason is one that was accepted
+require-clear : (b : Bool) (n v : ℕ) (m : Met) (ψ : PlanFile) → require b n v m ≡ clear ψ → m ≡ clear ψ
+require-clear true n v m ψ e = e
+require-clear false n v m ψ e = let z : _≡_ {A = ℕ} 0 1 = cc in absurd (omega arith)
+
+asked-ranged : (file : List ℕ) (a : List ℤ) (k : ℕ) (ψ : PlanFile) → afterReading (readPlan file) (reasonChecks a k) ≡ clear ψ → Ranged ψ
+unfolding afterReading
+asked-ranged file a k ψ h = go (readPlan file) refl h
+  where
+    go : (q : Reading) → readPlan file ≡ q → afterReading q (reasonChecks a k) ≡ clear ψ → Ranged ψ
+    go (not-read n v) e x = let z : _≡_ {A = ℕ} 0 1 = cc in absurd (omega arith)
+    go (accepted φ) e x =
+        let last = requireAtom φ k (clear φ) in
+        let values = requireValues isValue a last in
+        let c : clear φ ≡ clear ψ =
+        require-clear (leb 1 k && leb k (length (φ .atoms))) 11 (length (φ .atoms)) (clear φ) ψ
+        (require-clear (eqb (firstNot isValue a) (length a)) 10 (firstNot isValue a) last ψ (require-clear (eqb (length a) (φ .variables)) 9 (φ .variables) values ψ x)) in
+        let same : φ ≡ ψ = cc in
+        subst Ranged same (read-ranged file φ e)
+
 pub reason-unique : (file : List ℕ) (a : List ℤ) (i : ℕ) (before : List ℤ) → OneLeft (ReasonedIs file a i before)
 reason-unique file a i before =
-    unique-left reason.Refused (Gives a i before) (λ φ. reasons.reason-unique φ a (atom (φ .atoms) (i - 1))) (toldReason a i before) before (λ r after φ. ReasonCase φ a i before after r) (reason-led a i before)
+    unique-left reason.Refused (Gives a i before) (λ φ e. reasons.reason-unique φ (asked-ranged file a i φ e) a (atom (φ .atoms) (i - 1))) (toldReason a i before) before (λ r after φ. ReasonCase φ a i before after r) (reason-led a i before)
 
 -- ---- search
 
@@ -219,7 +247,7 @@ module _ (budget : ℕ) (before : List ℤ) where
 
 pub search-unique : (file : List ℕ) (budget : ℕ) (before : List ℤ) → OneLeft (SearchedIs file budget before)
 search-unique file budget before =
-    unique-left search.Refused (Ends budget before) (one-end budget before) (toldSearch budget before) before (λ r after φ. SearchCase φ budget before after r) (search-led budget before)
+    unique-left search.Refused (Ends budget before) (λ φ e. one-end budget before φ) (toldSearch budget before) before (λ r after φ. SearchCase φ budget before after r) (search-led budget before)
 
 -- ---- write_clauses
 
@@ -238,7 +266,7 @@ module _ (before : List ℤ) where
 
 pub write-clauses-unique : (file : List ℕ) (before : List ℤ) → OneLeft (WrittenIs file before)
 write-clauses-unique file before =
-    unique-left write.Refused (λ φ o. o ≡ φ) (λ φ o p e f. e ∙ sym f) (toldWrite before) before (λ r after φ. WriteCase φ before after r) (write-led before)
+    unique-left write.Refused (λ φ o. o ≡ φ) (λ φ z o p e f. e ∙ sym f) (toldWrite before) before (λ r after φ. WriteCase φ before after r) (write-led before)
 
 -- ---- write_dimacs
 
@@ -255,7 +283,7 @@ module _ (before : List ℕ) where
 
 pub write-dimacs-unique : (file before : List ℕ) → OneLeft (PrintedIs file before)
 write-dimacs-unique file before =
-    unique-left print.Refused (λ φ o. o ≡ φ) (λ φ o p e f. e ∙ sym f) (toldPrint before) before (λ r after φ. PrintCase φ before after r) (print-led before)
+    unique-left print.Refused (λ φ o. o ≡ φ) (λ φ z o p e f. e ∙ sym f) (toldPrint before) before (λ r after φ. PrintCase φ before after r) (print-led before)
 
 -- ---- read_dimacs
 
@@ -276,4 +304,4 @@ module _ (lines before : List ℕ) where
 
 pub read-dimacs-unique : (file lines before : List ℕ) → OneLeft (RulesReadIs file lines before)
 read-dimacs-unique file lines before =
-    unique-left dimacs.Refused (Holding lines before) (λ φ o p e f. ap rulesIn (sym e ∙ f)) (toldRules lines before) before (λ r after φ. RulesCase φ lines before after r) (rules-led lines before)
+    unique-left dimacs.Refused (Holding lines before) (λ φ z o p e f. ap rulesIn (sym e ∙ f)) (toldRules lines before) before (λ r after φ. RulesCase φ lines before after r) (rules-led lines before)

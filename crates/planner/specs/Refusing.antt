@@ -1,14 +1,16 @@
 -- What a call refuses. Document 01, "Numbers given on refusal".
 -- Assumes nothing.
 use mathlib.Core.Path.{_≡_}
-use mathlib.Core.Bool.{Bool, true, false, cond, _&&_, _||_}
-use mathlib.Core.List.{List, [], _∷_}
-use Prim.Native.Nat.{ℕ, zero, suc}
+use mathlib.Core.Bool.{Bool, true, false, _&&_, _||_}
+use mathlib.Core.List.{List}
+use Prim.Native.Nat.{ℕ, zero, suc, _+_}
 use lib.IntN.{ℤ, pos, negsuc}
 use lib.Dec.{eqb, leb}
 use lib.ListN.{length}
 use Rattle.plan.specs.Meaning.{PlanFile, isOn, isOff}
 use Rattle.plan.specs.Buffers.{Kept}
+use Rattle.plan.specs.Places.{firstNot}
+use Rattle.plan.specs.Written.{firstUnwritten}
 use Rattle.plan.specs.Refusals.{numberOf, valueOf}
 use Rattle.plan.specs.declared.Refusal.{Refusal}
 use Rattle.reader.specs.Format.{Reading, refused, accepted}
@@ -49,17 +51,17 @@ abbrev pub taken : Bool → ℤ → Bool
 taken true = isValue
 taken false = isSet
 
--- "the first such place, from 0"; the length where there is none
-unfoldable pub firstNot : (ℤ → Bool) → List ℤ → ℕ
-firstNot ok [] = zero
-firstNot ok (x ∷ a) = cond (ok x) (suc (firstNot ok a)) zero
-
+-- "the first such place, from 0"
 abbrev pub requireValues : (ℤ → Bool) → List ℤ → Met → Met
 requireValues ok a m = require (eqb (firstNot ok a) (length a)) 10 (firstNot ok a) m
 
 -- "11: atom number 0 or too large; atom count"
 abbrev pub requireAtom : PlanFile → ℕ → Met → Met
 requireAtom φ k m = require (leb 1 k && leb k (length (φ .atoms))) 11 (length (φ .atoms)) m
+
+-- "13, kind 3 present when clauses are written out, after 11 and before 12, with the first such atom's number" (02, C-13)
+abbrev pub requireBlocks : PlanFile → Met → Met
+requireBlocks φ m = require (eqb (firstUnwritten (φ .atoms)) (length (φ .atoms))) 13 (firstUnwritten (φ .atoms) + 1) m
 
 -- The code's refusal is the one with this number and this value.
 pub record Names (n v : ℕ) (y : Refusal) : Type 0 where

@@ -12,11 +12,11 @@ use Rattle.plan.specs.Buffers.{Wrote}
 use Rattle.reader.specs.Format.{readPlan}
 use Rattle.planner.specs.declared.WriteAnswer.{WriteAnswer}
 use Rattle.planner.specs.declared.WriteAnswer.the-variants.{Refused, Written}
-use Rattle.planner.specs.Refusing.{Met, clear, afterReading, require, KeepingBy}
+use Rattle.planner.specs.Refusing.{Met, clear, afterReading, require, requireBlocks, KeepingBy}
 
 -- "12: output buffer too short for the exact answer; length needed"
 abbrev pub writeChecks : List ℤ → PlanFile → Met
-writeChecks before φ = require (leb (length (flat (written φ))) (length before)) 12 (length (flat (written φ))) (clear φ)
+writeChecks before φ = requireBlocks φ (require (leb (length (flat (written φ))) (length before)) 12 (length (flat (written φ))) (clear φ))
 
 -- "a list of signed 32-bit numbers, each clause ended by 0, with the counts of variables, clauses and numbers"
 pub record WrittenOut (φ : PlanFile) (before after : List ℤ) (variables clauses numbers : ℕ) : Type 0 where

@@ -11,11 +11,11 @@ use Rattle.reader.specs.Format.{readPlan}
 use Rattle.listing.specs.Text.{text}
 use Rattle.planner.specs.declared.WriteDimacsAnswer.{WriteDimacsAnswer}
 use Rattle.planner.specs.declared.WriteDimacsAnswer.the-variants.{Refused, Printed}
-use Rattle.planner.specs.Refusing.{Met, clear, afterReading, require, KeepingBy}
+use Rattle.planner.specs.Refusing.{Met, clear, afterReading, require, requireBlocks, KeepingBy}
 
 -- "then 12 with the exact bytes needed, before anything is written"
 abbrev pub printChecks : List ℕ → PlanFile → Met
-printChecks before φ = require (leb (length (text φ)) (length before)) 12 (length (text φ)) (clear φ)
+printChecks before φ = requireBlocks φ (require (leb (length (text φ)) (length before)) 12 (length (text φ)) (clear φ))
 
 -- The whole text is written, and its bytes are counted.
 pub record TextWritten (φ : PlanFile) (before after : List ℕ) (bytes : ℕ) : Type 0 where

@@ -16,7 +16,8 @@ ghost use mathlib.Core.Path.{_≡_};
 ghost use lib.ListN.{length};
 ghost use Rattle.plan.specs.Search.{Assigned};
 ghost use Rattle.plan.specs.Tables.{planOf, Lent};
-ghost use Rattle.planner.specs.Refusing.{firstNot, taken};
+ghost use Rattle.plan.specs.Places.{firstNot};
+ghost use Rattle.planner.specs.Refusing.{taken};
 ghost use Rattle.planner.specs.Read.{ReadIs};
 ghost use Rattle.planner.specs.Judge.{judgeChecks, JudgeBy, JudgeIs};
 ghost use Rattle.planner.specs.Close.{closeChecks, CloseCase, CloseBy, ClosedIs};
@@ -400,6 +401,10 @@ fn write_lent(
     requires { ⌜ Lent plan (now edges) (now atoms) (now clauses) ⌝ }
     ensures { λ r. ⌜ WriteBy (writeChecks (now (out .entry)) (planOf plan (now (edges .entry)) (now (atoms .entry)) (now (clauses .entry)))) (now (out .entry)) (now (out .exit)) r ⌝ }
 {
+    let unwritten = clauses::first_unwritten(atoms);
+    if unwritten != plan.atoms {
+        return WriteAnswer::Refused(Refusal::NoBlock(unwritten + 1));
+    }
     let writing = clauses::write_clauses(plan, edges, atoms, clauses, out);
     match writing {
         Writing::Written(counts) => WriteAnswer::Written(
@@ -421,6 +426,10 @@ fn print_lent(
     requires { ⌜ Lent plan (now edges) (now atoms) (now clauses) ⌝ }
     ensures { λ r. ⌜ PrintBy (printChecks (now (out .entry)) (planOf plan (now (edges .entry)) (now (atoms .entry)) (now (clauses .entry)))) (now (out .entry)) (now (out .exit)) r ⌝ }
 {
+    let unwritten = clauses::first_unwritten(atoms);
+    if unwritten != plan.atoms {
+        return WriteDimacsAnswer::Refused(Refusal::NoBlock(unwritten + 1));
+    }
     let printing = listing::write_text(plan, edges, atoms, clauses, out);
     match printing {
         Printing::Printed(bytes) => WriteDimacsAnswer::Printed(bytes),

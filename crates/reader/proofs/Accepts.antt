@@ -3,9 +3,9 @@
 use Rattle.reader.proofs.Kit.{_≡_, refl, sym, ap, _∙_, subst, ⊎-elim, true, false, _&&_, _||_, or-true, false≢true, List, [], _∷_, _++_, List·Memᴰ, List·Memᴰ·not-nil, List·Memᴰ·cases-cons, List·Memᴰ·append-cases, List·Memᴰ·eq-of-singleton, ℕ, zero, suc, _+_, _/_, _<_, _≤_, arith, eq-eqb, ltb-true, leb-true, eqb-true, ltb, leb, eqb, ℤ, natAbs, length}
 use Rattle.plan.specs.Meaning.{Edge, Atom, PlanFile, numberOfKind, kindOf}
 use Rattle.plan.specs.declared.Kind.{Kind}
-use Rattle.plan.specs.declared.Kind.the-variants.{Reaches, Within}
-use Rattle.reader.specs.Format.{Step, refuse, next, done, Reading, refused, accepted, onward, word, lenAt, headOk, endsOk, boundOk, kindOk, atomOk, literalOk, literalsOk, serves, edgeUses, atomUses, edgeIn, kindIn, atomIn, clauseIn, addEdge, addAtom, addClause, emptyPlan, stepAt, headAt, records, readPlan}
-use Rattle.plan.specs.Ranged.{maxBound, literals, EndsFit, LiteralFits, LiteralsFit, BoundFits, Ranged}
+use Rattle.plan.specs.declared.Kind.the-variants.{Reaches, Within, LengthAtMost}
+use Rattle.reader.specs.Format.{Step, refuse, next, done, Reading, refused, accepted, onward, word, lenAt, headOk, endsOk, lengthOk, edgeOk, boundOk, kindOk, atomOk, literalOk, literalsOk, serves, edgeUses, atomUses, edgeIn, kindIn, atomIn, clauseIn, addEdge, addAtom, addClause, emptyPlan, stepAt, headAt, records, readPlan}
+use Rattle.plan.specs.Ranged.{maxLength, maxBound, maxLengthBound, literals, EndsFit, LengthFits, LiteralFits, LiteralsFit, BoundFits, Ranged}
 use Rattle.reader.proofs.Cases.{both, head-by, step-by, edge-by, atom-by, clause-by}
 use Rattle.plan.proofs.ClauseTable.{count-clause}
 use Rattle.reader.proofs.Rows.{length-snoc, literals-length}
@@ -19,9 +19,14 @@ ends-fit n v from to variable h =
     let d = both (leb 1 variable) (leb variable v) (a .1) in
     record { from-in = ltb-true from n (b .0); to-in = ltb-true to n (b .1); low = leb-true 1 variable (d .0); high = leb-true variable v (d .1) }
 
+length-fits : (l : ℕ) → lengthOk l ≡ true → LengthFits l
+unfolding lengthOk
+length-fits l h = let d = both (leb 1 l) (leb l maxLength) h in record { low = leb-true 1 l (d .0); high = leb-true l maxLength (d .1) }
+
 bound-fits : (kind : Kind) (b : ℕ) → boundOk kind b ≡ true → BoundFits kind b
 bound-fits Reaches b h = eqb-true b 0 h
 bound-fits Within b h = leb-true b maxBound h
+bound-fits LengthAtMost b h = leb-true b maxLengthBound h
 
 kind-fits : (k b : ℕ) → kindOk k b ≡ true → BoundFits (kindOf k) b
 unfolding kindOk
@@ -55,24 +60,27 @@ snoc : {A : Type 0} (P : A → Type 0) (xs : List A) (x : A) → ((a : A) → Li
 snoc P xs x all one a m = ⊎-elim (λ n. all a n) (λ n. subst P (sym (List·Memᴰ·eq-of-singleton n)) one) (List·Memᴰ·append-cases xs m)
 
 module _ (p : PlanFile) (r : Ranged p) where
-  with-edge : (e : Edge) → endsOk (p .nodes) (p .variables) (e .from) (e .to) (e .variable) ≡ true → length (p .edges) < 256
+  with-edge : (e : Edge) → edgeOk (p .nodes) (p .variables) e ≡ true → length (p .edges) < 256
       → atomUses (p .atoms) (e .variable) ≡ false → Ranged (addEdge p e)
-  with-edge e ok room free = record {
-    node = r .node;
-    nodes = r .nodes;
-    variable = r .variable;
-    variables = r .variables;
-    edges = omega (arith, length-snoc (p .edges) e);
-    atoms = r .atoms;
-    clauses = r .clauses;
-    literals = r .literals;
-    edge = snoc (λ (x : Edge). EndsFit (p .nodes) (p .variables) (x .from) (x .to) (x .variable)) (p .edges) e (r .edge) (ends-fit _ _ _ _ _ ok);
-    atom = r .atom;
-    bound = r .bound;
-    literal = r .literal;
-    apart = snoc (λ (x : Edge). (a : Atom) → List·Memᴰ a (p .atoms) → x .variable ≡ a .variable → ⊥) (p .edges) e (r .apart)
-        (λ a m q. unserved _ (p .atoms) (e .variable) free a m (sym q));
-  }
+  with-edge e ok room free =
+      let d = both (endsOk (p .nodes) (p .variables) (e .from) (e .to) (e .variable)) (lengthOk (e .length)) ok in
+      record {
+        node = r .node;
+        nodes = r .nodes;
+        variable = r .variable;
+        variables = r .variables;
+        edges = omega (arith, length-snoc (p .edges) e);
+        atoms = r .atoms;
+        clauses = r .clauses;
+        literals = r .literals;
+        edge = snoc (λ (x : Edge). EndsFit (p .nodes) (p .variables) (x .from) (x .to) (x .variable)) (p .edges) e (r .edge) (ends-fit _ _ _ _ _ (d .0));
+        long = snoc (λ (x : Edge). LengthFits (x .length)) (p .edges) e (r .long) (length-fits (e .length) (d .1));
+        atom = r .atom;
+        bound = r .bound;
+        literal = r .literal;
+        apart = snoc (λ (x : Edge). (a : Atom) → List·Memᴰ a (p .atoms) → x .variable ≡ a .variable → ⊥) (p .edges) e (r .apart)
+            (λ a m q. unserved _ (p .atoms) (e .variable) free a m (sym q));
+      }
 
   with-atom : (k : ℕ) (a : Atom) → a .kind ≡ kindOf k → atomOk (p .nodes) (p .variables) k a ≡ true
       → length (p .atoms) < 64 → edgeUses (p .edges) (a .variable) ≡ false → Ranged (addAtom p a)
@@ -88,6 +96,7 @@ module _ (p : PlanFile) (r : Ranged p) where
         clauses = r .clauses;
         literals = r .literals;
         edge = r .edge;
+        long = r .long;
         atom = snoc (λ (x : Atom). EndsFit (p .nodes) (p .variables) (x .from) (x .to) (x .variable)) (p .atoms) a (r .atom) (ends-fit _ _ _ _ _ (d .1));
         bound = snoc (λ (x : Atom). BoundFits (x .kind) (x .bound)) (p .atoms) a (r .bound) (rw is (kind-fits k (a .bound) (d .0)));
         literal = r .literal;
@@ -106,6 +115,7 @@ module _ (p : PlanFile) (r : Ranged p) where
     clauses = omega (arith, length-snoc (p .clauses) c);
     literals = omega (arith, count-clause (p .clauses) c);
     edge = r .edge;
+    long = r .long;
     atom = r .atom;
     bound = r .bound;
     literal = snoc (LiteralsFit (p .variables)) (p .clauses) c (r .literal) (literals-fit (p .variables) c ok);
@@ -126,7 +136,7 @@ pub step-good : (f : List ℕ) (at : ℕ) (p : PlanFile) → Ranged p → Good (
 step-good f at p r =
     let n = literals-length f (at + 3) (lenAt f at / 2) in
     step-by Good (λ n v. tt) f at p
-    (λ h. edge-by Good (λ n v. tt) f at p (λ l. with-edge p r (edgeIn f at)))
+    (λ long h. edge-by Good (λ n v. tt) f at p long (λ l. with-edge p r (edgeIn long f at)))
     (λ h. atom-by Good (λ n v. tt) f at p (λ l. with-atom p r (kindIn f at) (atomIn f at) refl))
     (λ h. clause-by Good (λ n v. tt) f at p (λ l ok room most.
     with-clause p r (clauseIn f at) ok room (subst (λ (k : ℕ). literals (p .clauses) + k ≤ 4096) (sym n) most)))
@@ -159,6 +169,7 @@ empty-ranged n v h =
       clauses = omega arith;
       literals = omega arith;
       edge = λ e m. absurd (List·Memᴰ·not-nil m);
+      long = λ e m. absurd (List·Memᴰ·not-nil m);
       atom = λ e m. absurd (List·Memᴰ·not-nil m);
       bound = λ e m. absurd (List·Memᴰ·not-nil m);
       literal = λ e m. absurd (List·Memᴰ·not-nil m);

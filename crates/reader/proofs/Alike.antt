@@ -4,7 +4,8 @@ use Rattle.reader.proofs.Kit.{_≡_, refl, sym, _∙_, Bool, true, fals
 use mathlib.Core.Path.{ap₂}
 use Rattle.plan.specs.Meaning.{PlanFile}
 use Rattle.plan.specs.Ranged.{maxBytes}
-use Rattle.reader.specs.Format.{Step, check, word, twos, lenAt, after, literalsIn, edgeAt, atomAt, clauseAt, endAt, stepAt, headAt}
+use Rattle.reader.specs.Format.{Step, check, word, twos, lenAt, after, edgeLen, lengthIn, literalsIn, edgeAt, atomAt, clauseAt, endAt, stepAt, headAt}
+use Rattle.reader.proofs.Rows.{edge-least}
 use Rattle.reader.proofs.Runs.{Leads, here, further, passed, leads-ahead, fits-so}
 
 pub record Alike (f g : List ℕ) (m : ℕ) : Type 0 where
@@ -30,12 +31,17 @@ module _ {f g : List ℕ} {m : ℕ} (same : Alike f g m) where
     len-same : lenAt f at ≡ lenAt g at
     len-same = word-same (at + 1) (omega arith)
 
-    edge-same : edgeAt f at p ≡ edgeAt g at p
+    length-same : (long : Bool) → lenAt g at ≡ edgeLen long → lengthIn long f at ≡ lengthIn long g at
+    length-same true l = word-same (at + 9) (omega (arith, len-same))
+    length-same false l = refl
+
+    edge-same : (long : Bool) → edgeAt long f at p ≡ edgeAt long g at p
     unfolding edgeAt
-    edge-same =
-        rw len-same (if-same (eqb (lenAt g at) 6) 5 at _ _ (λ e.
-        let l = eqb-true (lenAt g at) 6 e in
-        simp (word-same (at + 3) (omega (arith, len-same)), word-same (at + 5) (omega (arith, len-same)), word-same (at + 7) (omega (arith, len-same)))))
+    edge-same long =
+        rw len-same (if-same (eqb (lenAt g at) (edgeLen long)) 5 at _ _ (λ e.
+        let l = eqb-true (lenAt g at) (edgeLen long) e in
+        let h = edge-least long in
+        simp (word-same (at + 3) (omega (arith, len-same)), word-same (at + 5) (omega (arith, len-same)), word-same (at + 7) (omega (arith, len-same)), length-same long l)))
 
     atom-same : atomAt f at p ≡ atomAt g at p
     unfolding atomAt

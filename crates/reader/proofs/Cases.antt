@@ -3,7 +3,7 @@
 use Rattle.reader.proofs.Kit.{_≡_, refl, Bool, true, false, not, _&&_, and-eq-true-iff, List, ℕ, _+_, _*_, _/_, _<_, _≤_, arith, ltb-true, leb-true, eqb-true, not-true, ltb, leb, eqb, length}
 use Rattle.plan.specs.Meaning.{PlanFile}
 use Rattle.plan.specs.Ranged.{maxBytes, maxEdges, maxAtoms, maxClauses, maxLiterals, literals}
-use Rattle.reader.specs.Format.{Step, refuse, next, done, check, pick, inOrder, word, tagAt, lenAt, after, fits, headOk, edgeOk, atomOk, literalsOk, clauseLen, edgeUses, atomUses, edgeIn, kindIn, atomIn, clauseIn, addEdge, addAtom, addClause, emptyPlan, edgeAt, atomAt, clauseAt, endAt, stepAt, headAt}
+use Rattle.reader.specs.Format.{Step, refuse, next, done, check, pick, inOrder, word, tagAt, lenAt, after, fits, headOk, edgeOk, atomOk, literalsOk, clauseLen, edgeUses, atomUses, edgeLen, edgeIn, kindIn, atomIn, clauseIn, addEdge, addAtom, addClause, emptyPlan, edgeAt, atomAt, clauseAt, endAt, stepAt, headAt}
 use Rattle.reader.proofs.Steps.{fits-is}
 
 pub both : (a b : Bool) → (a && b) ≡ true → (a ≡ true) × (b ≡ true)
@@ -41,12 +41,13 @@ module _ (G : Step → Type 0) (no : (n v : ℕ) → G (refuse n v)) where
       let l = eqb-true (lenAt f 0) 4 d in g l (omega (arith, fits-is f 0 b)) e)))))
 
   module _ (f : List ℕ) (at : ℕ) (p : PlanFile) where
-    pub edge-by : (lenAt f at ≡ 6 → edgeOk (p .nodes) (p .variables) (edgeIn f at) ≡ true → length (p .edges) < maxEdges → atomUses (p .atoms) (word f (at + 7)) ≡ false
-        → G (next (after f at) (addEdge p (edgeIn f at)))) → G (edgeAt f at p)
+    pub edge-by : (long : Bool)
+        → (lenAt f at ≡ edgeLen long → edgeOk (p .nodes) (p .variables) (edgeIn long f at) ≡ true → length (p .edges) < maxEdges → atomUses (p .atoms) (word f (at + 7)) ≡ false
+        → G (next (after f at) (addEdge p (edgeIn long f at)))) → G (edgeAt long f at p)
     unfolding edgeAt
-    edge-by g =
-        in-order (eqb (lenAt f at) 6) (edgeOk (p .nodes) (p .variables) (edgeIn f at)) (ltb (length (p .edges)) maxEdges)
-        (not (atomUses (p .atoms) (word f (at + 7)))) _ _ (λ l r m a. g (eqb-true (lenAt f at) 6 l) r (ltb-true _ _ m) (not-true _ a))
+    edge-by long g =
+        in-order (eqb (lenAt f at) (edgeLen long)) (edgeOk (p .nodes) (p .variables) (edgeIn long f at)) (ltb (length (p .edges)) maxEdges)
+        (not (atomUses (p .atoms) (word f (at + 7)))) _ _ (λ l r m a. g (eqb-true (lenAt f at) (edgeLen long) l) r (ltb-true _ _ m) (not-true _ a))
 
     pub atom-by : (lenAt f at ≡ 9 → atomOk (p .nodes) (p .variables) (kindIn f at) (atomIn f at) ≡ true → length (p .atoms) < maxAtoms → edgeUses (p .edges) (word f (at + 10)) ≡ false
         → G (next (after f at) (addAtom p (atomIn f at)))) → G (atomAt f at p)
@@ -70,11 +71,12 @@ module _ (G : Step → Type 0) (no : (n v : ℕ) → G (refuse n v)) where
         if-held (eqb (lenAt f at) 0) _ _ _ (λ l. if-held (eqb (length f) (at + 3)) _ _ _ (λ e.
         g (record { tag = t; none = eqb-true (lenAt f at) 0 l; last = eqb-true (length f) (at + 3) e })))
 
-    pub step-by : (after f at ≤ length f → G (edgeAt f at p)) → (after f at ≤ length f → G (atomAt f at p)) → (after f at ≤ length f → G (clauseAt f at p))
+    pub step-by : ((long : Bool) → after f at ≤ length f → G (edgeAt long f at p)) → (after f at ≤ length f → G (atomAt f at p)) → (after f at ≤ length f → G (clauseAt f at p))
         → (Ended f at → G (done p)) → G (stepAt f at p)
     unfolding stepAt
     step-by e a c d =
         if-held (fits f at) _ _ _ (λ w. if-held (not (eqb (tagAt f at) 1)) _ _ _ (λ n.
         let h = fits-is f at w in
-        one-of (eqb (tagAt f at) 2) _ _ (λ t. e h) (one-of (eqb (tagAt f at) 3) _ _ (λ t. a h) (one-of (eqb (tagAt f at) 4) _ _ (λ t. c h)
-        (one-of (eqb (tagAt f at) 5) _ _ (λ t. end-by (eqb-true (tagAt f at) 5 t) d) (no 4 at))))))
+        one-of (eqb (tagAt f at) 2) _ _ (λ t. e false h) (one-of (eqb (tagAt f at) 3) _ _ (λ t. a h) (one-of (eqb (tagAt f at) 4) _ _ (λ t. c h)
+        (one-of (eqb (tagAt f at) 5) _ _ (λ t. end-by (eqb-true (tagAt f at) 5 t) d)
+        (one-of (eqb (tagAt f at) 6) _ _ (λ t. e true h) (no 4 at)))))))

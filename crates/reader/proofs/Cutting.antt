@@ -24,10 +24,10 @@ module _ (file : List ℕ) (es bs : List ℕ) (cs : List ℤ) {a : ReadAnswer} {
   pub room : Room p
   room = given file a p es bs cs h e .room
 
-  pub parts : {es′ bs′ : List ℕ} {cs′ : List ℤ} → es′ ≡ take (p .edges * 3) es → bs′ ≡ take (p .atoms * 5) bs → cs′ ≡ take (p .literals + p .clauses) cs
+  pub parts : {es′ bs′ : List ℕ} {cs′ : List ℤ} → es′ ≡ take (p .edges * 4) es → bs′ ≡ take (p .atoms * 5) bs → cs′ ≡ take (p .literals + p .clauses) cs
       → Parts file p es′ bs′ cs′
   parts {es′} {bs′} {cs′} x y z =
       let l = lending file a p es bs cs h e in
       subst (λ (es : List ℕ). Parts file p es bs′ cs′) (sym x)
-      (subst (λ (bs : List ℕ). Parts file p (take (p .edges * 3) es) bs cs′) (sym y)
-      (subst (λ (cs : List ℤ). Parts file p (take (p .edges * 3) es) (take (p .atoms * 5) bs) cs) (sym z) (record { reads = l .reads; lent = l .lent })))
+      (subst (λ (bs : List ℕ). Parts file p (take (p .edges * 4) es) bs cs′) (sym y)
+      (subst (λ (cs : List ℤ). Parts file p (take (p .edges * 4) es) (take (p .atoms * 5) bs) cs) (sym z) (record { reads = l .reads; lent = l .lent })))

@@ -22,7 +22,7 @@ pub step-ahead : (f : List ℕ) (at : ℕ) (p : PlanFile) → Ahead f at (stepAt
 step-ahead f at p =
     let G = Ahead f at in
     step-by G (λ n v. tt) f at p
-    (λ h. edge-by G (λ n v. tt) f at p (λ l r m a. (omega arith, h)))
+    (λ long h. edge-by G (λ n v. tt) f at p long (λ l r m a. (omega arith, h)))
     (λ h. atom-by G (λ n v. tt) f at p (λ l r m a. (omega arith, h)))
     (λ h. clause-by G (λ n v. tt) f at p (λ l r m a. (omega arith, h)))
     (λ e. tt)
@@ -82,7 +82,7 @@ one-answer (accepted p) (Accepted c) (Accepted d) es bs es′ bs′ cs cs′ h k
 
 -- and no second contents of the tables, as far as they are filled
 pub one-filling : (p : PlanFile) (c : counted.Plan) (es bs es′ bs′ : List ℕ) (cs cs′ : List ℤ) → Tables p c es bs cs → Tables p c es′ bs′ cs′
-    → (take (c .edges * 3) es ≡ take (c .edges * 3) es′) × (take (c .atoms * 5) bs ≡ take (c .atoms * 5) bs′)
+    → (take (c .edges * 4) es ≡ take (c .edges * 4) es′) × (take (c .atoms * 5) bs ≡ take (c .atoms * 5) bs′)
     × (take (c .literals + c .clauses) cs ≡ take (c .literals + c .clauses) cs′)
 one-filling p c es bs es′ bs′ cs cs′ t u = (t .edges .rows ∙ sym (u .edges .rows), t .atoms .rows ∙ sym (u .atoms .rows), t .clauses .rows ∙ sym (u .clauses .rows))
 

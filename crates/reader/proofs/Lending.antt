@@ -6,7 +6,7 @@ use native.Mathlib.Nat.{suc-mul, add-comm}
 use mathlib.Core.Path.{ap₂}
 use Rattle.plan.specs.Meaning.{Edge, Atom, numberOfKind, kindOf}
 use Rattle.plan.specs.declared.Kind.{Kind}
-use Rattle.plan.specs.declared.Kind.the-variants.{Reaches, Within}
+use Rattle.plan.specs.declared.Kind.the-variants.{Reaches, Within, LengthAtMost}
 use Rattle.plan.specs.Ranged.{Ranged, literals}
 use Rattle.plan.specs.Written.{flat}
 use Rattle.plan.specs.Tables.{edgesOf, atomsOf, clausesOf, planOf, Lent}
@@ -26,6 +26,7 @@ edges-back (e ∷ es) = ap (λ l. e ∷ l) (edges-back es)
 kind-back : (kind : Kind) → kindOf (numberOfKind kind) ≡ kind
 kind-back Reaches = refl
 kind-back Within = refl
+kind-back LengthAtMost = refl
 
 atoms-back : (bs : List Atom) → atomsOf (rowsOf atomRow bs) ≡ bs
 unfolding atomsOf rowsOf
@@ -40,14 +41,14 @@ rows-length row k e (x ∷ xs) = simp (length-append, e x, rows-length row k e x
 
 -- the plan file of the tables' used parts, and what is guaranteed of them
 pub record Lending (f : List ℕ) (c : counted.Plan) (es bs : List ℕ) (cs : List ℤ) : Type 0 where
-  pub reads : readPlan f ≡ accepted (planOf c (take (c .edges * 3) es) (take (c .atoms * 5) bs) (take (c .literals + c .clauses) cs))
-  pub lent : Lent c (take (c .edges * 3) es) (take (c .atoms * 5) bs) (take (c .literals + c .clauses) cs)
+  pub reads : readPlan f ≡ accepted (planOf c (take (c .edges * 4) es) (take (c .atoms * 5) bs) (take (c .literals + c .clauses) cs))
+  pub lent : Lent c (take (c .edges * 4) es) (take (c .atoms * 5) bs) (take (c .literals + c .clauses) cs)
 
 module _ (f : List ℕ) (c : counted.Plan) (es bs : List ℕ) (cs : List ℤ) (g : Given f c es bs cs) where
   not-zero : (C : List ℤ) → List·Memᴰ C (g .plan .clauses) → (l : ℤ) → List·Memᴰ l C → l ≢ pos 0
   not-zero C m l k e = let z : natAbs l ≡ 0 = ap natAbs e in omega (arith, g .ranged .literal C m l k .low)
 
-  edges-are : edgesOf (take (c .edges * 3) es) ≡ g .plan .edges
+  edges-are : edgesOf (take (c .edges * 4) es) ≡ g .plan .edges
   edges-are = ap edgesOf (g .tables .edges .rows) ∙ edges-back (g .plan .edges)
 
   atoms-are : atomsOf (take (c .atoms * 5) bs) ≡ g .plan .atoms
@@ -56,7 +57,7 @@ module _ (f : List ℕ) (c : counted.Plan) (es bs : List ℕ) (cs : List ℤ) (g
   clauses-are : clausesOf (take (c .literals + c .clauses) cs) ≡ g .plan .clauses
   clauses-are = ap clausesOf (g .tables .clauses .rows) ∙ clauses-back (g .plan .clauses) not-zero
 
-  same : planOf c (take (c .edges * 3) es) (take (c .atoms * 5) bs) (take (c .literals + c .clauses) cs) ≡ g .plan
+  same : planOf c (take (c .edges * 4) es) (take (c .atoms * 5) bs) (take (c .literals + c .clauses) cs) ≡ g .plan
   same =
       let n : c .nodes ≡ g .plan .nodes = sym (g .tables .nodes) in
       let v : c .variables ≡ g .plan .variables = sym (g .tables .variables) in
@@ -67,7 +68,7 @@ module _ (f : List ℕ) (c : counted.Plan) (es bs : List ℕ) (cs : List ℤ) (g
     reads = g .reads ∙ ap accepted (sym same);
     lent = record {
       ranged = subst Ranged (sym same) (g .ranged);
-      edges = ap length (g .tables .edges .rows) ∙ rows-length edgeRow 3 (λ e. refl) (g .plan .edges) ∙ ap (λ n. n * 3) (g .tables .edges .count);
+      edges = ap length (g .tables .edges .rows) ∙ rows-length edgeRow 4 (λ e. refl) (g .plan .edges) ∙ ap (λ n. n * 4) (g .tables .edges .count);
       atoms = ap length (g .tables .atoms .rows) ∙ rows-length atomRow 5 (λ a. refl) (g .plan .atoms) ∙ ap (λ n. n * 5) (g .tables .atoms .count);
       clauses = ap length clauses-are ∙ g .tables .clauses .count;
       literals = ap literals clauses-are ∙ g .tables .literals;

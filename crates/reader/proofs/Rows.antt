@@ -4,7 +4,7 @@ use Rattle.reader.proofs.Kit.{_≡_, refl, sym, ap, _∙_, Bool, true, 
 use lib.Seq.{take-suc-set, append-snoc, getD-drop, getD-take, drop-drop, length-take-le}
 use Rattle.plan.specs.Meaning.{Edge, Atom}
 use Rattle.plan.specs.Ranged.{literals}
-use Rattle.reader.specs.Format.{word, twos, literalsIn, literalsOk, literalOk, serves, edgeUses, atomUses}
+use Rattle.reader.specs.Format.{word, twos, edgeLen, literalsIn, literalsOk, literalOk, serves, edgeUses, atomUses}
 use Rattle.reader.specs.Filling.{lastIs, rowsOf, edgeRow, atomRow}
 
 -- one more element behind what stands there
@@ -91,7 +91,7 @@ module _ (t : List ℕ) (u v n i : ℕ) (h : u ≤ length t) where
     pub uses-miss : (getD t (i + n) 0 ≡ v → ⊥) → behind i ≡ behind (i + n + 1)
     uses-miss e = uses-step ∙ ap (λ b. b || behind (i + n + 1)) (ne-eqb _ _ e)
 
-pub uses-edges : (es : List Edge) (v : ℕ) → lastIs 2 2 (rowsOf edgeRow es) v ≡ edgeUses es v
+pub uses-edges : (es : List Edge) (v : ℕ) → lastIs 3 3 (rowsOf edgeRow es) v ≡ edgeUses es v
 unfolding lastIs rowsOf serves
 uses-edges [] v = refl
 uses-edges (e ∷ es) v = ap (λ b. eqb (e .variable) v || b) (uses-edges es v)
@@ -109,3 +109,12 @@ rows-more row (y ∷ xs) x = ap (λ l. row y ++ l) (rows-more row xs x) ∙ sym 
 
 pub length-snoc : {A : Type 0} (xs : List A) (x : A) → length (xs ++ (x ∷ [])) ≡ length xs + 1
 length-snoc xs x = length-append xs (x ∷ [])
+
+-- an edge's value has room for two nodes and a variable, and for a length at the most
+pub edge-least : (long : Bool) → 6 ≤ edgeLen long
+edge-least true = omega arith
+edge-least false = omega arith
+
+pub edge-most : (long : Bool) → edgeLen long ≤ 8
+edge-most true = omega arith
+edge-most false = omega arith

@@ -1,23 +1,23 @@
--- A file is accepted exactly if its records lead from its head to its end record. What an accepted file's length is.
+-- A file is accepted exactly if its records lead from its head to its end record. How long an accepted file is at the most.
 -- Assumes nothing.
 use Rattle.reader.proofs.Kit.{_≡_, refl, ap, _∙_, subst, true, List, ℕ, zero, suc, _+_, _*_, _/_, _≤_, arith, le-leb, eq-eqb, length}
 use Rattle.plan.specs.Meaning.{PlanFile}
 use Rattle.plan.specs.Ranged.{literals}
 use Rattle.reader.specs.Format.{Step, refuse, next, done, refused, accepted, onward, lenAt, after, fits, edgeIn, atomIn, clauseIn, endAt, stepAt, headAt, records, readPlan}
 use Rattle.plan.proofs.ClauseTable.{count-clause}
-use Rattle.reader.proofs.Rows.{length-snoc, literals-length}
+use Rattle.reader.proofs.Rows.{edge-most, length-snoc, literals-length}
 use Rattle.reader.proofs.Cases.{Ended, head-by, step-by, edge-by, atom-by, clause-by}
 use Rattle.reader.proofs.Exact.{readFrom, read-head, read-step}
 
--- the bytes of a plan's records between head and end
+-- the bytes that a plan's records between head and end take at the most: an edge has 11 with its length, 9 without
 abbrev pub bytes : PlanFile → ℕ
-bytes p = 9 * length (p .edges) + 12 * length (p .atoms) + 3 * length (p .clauses) + 2 * literals (p .clauses)
+bytes p = 11 * length (p .edges) + 12 * length (p .atoms) + 3 * length (p .clauses) + 2 * literals (p .clauses)
 
 -- a record that passes: where it ends, and what it adds
 pub record Passed (f : List ℕ) (at : ℕ) (p : PlanFile) (b : ℕ) (q : PlanFile) : Type 0 where
   pub ends : b ≡ after f at
   pub inside : b ≤ length f
-  pub adds : b + bytes p ≡ at + bytes q
+  pub adds : b + bytes p ≤ at + bytes q
 
 abbrev Moved : List ℕ → ℕ → PlanFile → Step → Type 0
 Moved f at p (refuse n v) = Unit
@@ -28,7 +28,7 @@ moved : (f : List ℕ) (at : ℕ) (p : PlanFile) → Moved f at p (stepAt f at p
 moved f at p =
     let G = Moved f at p in
     step-by G (λ n v. tt) f at p
-    (λ h. edge-by G (λ n v. tt) f at p (λ l r m a. record { ends = refl; inside = h; adds = omega (arith, length-snoc (p .edges) (edgeIn f at)) }))
+    (λ long h. edge-by G (λ n v. tt) f at p long (λ l r m a. record { ends = refl; inside = h; adds = omega (arith, l, edge-most long, length-snoc (p .edges) (edgeIn long f at)) }))
     (λ h. atom-by G (λ n v. tt) f at p (λ l r m a. record { ends = refl; inside = h; adds = omega (arith, length-snoc (p .atoms) (atomIn f at)) }))
     (λ h. clause-by G (λ n v. tt) f at p (λ l r m a.
     let n = literals-length f (at + 3) (lenAt f at / 2) in
@@ -51,8 +51,8 @@ pub leads-ahead : {f : List ℕ} {at to : ℕ} {p r : PlanFile} → Leads f at p
 leads-ahead here = omega arith
 leads-ahead (further e l) = omega (arith, passed e .ends, leads-ahead l)
 
-leads-bytes : {f : List ℕ} {at to : ℕ} {p r : PlanFile} → Leads f at p to r → to + bytes p ≡ at + bytes r
-leads-bytes here = refl
+leads-bytes : {f : List ℕ} {at to : ℕ} {p r : PlanFile} → Leads f at p to r → to + bytes p ≤ at + bytes r
+leads-bytes here = omega arith
 leads-bytes (further e l) = omega (arith, passed e .adds, leads-bytes l)
 
 -- the head, the records and the end
@@ -123,8 +123,8 @@ read-runs {f} {φ} h = go (headAt f) refl (headed f) h
         }
     go (done p) e m r = absurd m
 
--- the head has 7 bytes, an edge 9, an atom 12, a clause 3 and 2 for each literal, the end 3
-pub size : (f : List ℕ) {φ : PlanFile} → readPlan f ≡ accepted φ → length f ≡ 10 + bytes φ
+-- the head has 7 bytes, an edge 11 at the most, an atom 12, a clause 3 and 2 for each literal, the end 3
+pub size : (f : List ℕ) {φ : PlanFile} → readPlan f ≡ accepted φ → length f ≤ 10 + bytes φ
 size f h =
     let r = read-runs h in
     let b = subst (Headed f) (r .head) (headed f) in

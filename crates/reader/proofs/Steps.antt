@@ -8,7 +8,7 @@ use Rattle.plan.specs.declared.Plan as counted
 use Rattle.plan.specs.declared.Refusal.the-variants.{Misplaced, BadLength, OutOfRange, TooMany, Shared}
 use Rattle.reader.specs.declared.Step as code
 use Rattle.reader.specs.declared.Step.the-variants.{Refuse, Done}
-use Rattle.reader.specs.Format.{Step, next, inOrder, word, lenAt, after, fits, edgeOk, atomOk, literalsOk, clauseLen, edgeIn, kindIn, atomIn, clauseIn, literalsIn, addEdge, addAtom, addClause, emptyPlan, edgeAt, atomAt, clauseAt, endAt}
+use Rattle.reader.specs.Format.{Step, next, inOrder, word, lenAt, after, fits, edgeOk, atomOk, literalsOk, clauseLen, edgeLen, edgeIn, kindIn, atomIn, clauseIn, literalsIn, addEdge, addAtom, addClause, emptyPlan, edgeAt, atomAt, clauseAt, endAt}
 use Rattle.reader.specs.Filling.{Steps, refuses, ends, Tables, Filled, lastIs, rowsOf, edgeRow, atomRow}
 use Rattle.plan.proofs.ClauseTable.{flat-clause, count-clause}
 use Rattle.reader.proofs.Rows.{uses-edges, uses-atoms, rows-more, length-snoc, literals-length}
@@ -67,18 +67,18 @@ module _ {q s : Step} {long ranged room used : Bool} {at : ℕ} (k : Tested q lo
         taken u h = rw (k .is, l, r, m, u) h
 
 module _ (f : List ℕ) (at : ℕ) {p : PlanFile} {c : counted.Plan} {es bs : List ℕ} {cs : List ℤ} (t : Tables p c es bs cs) where
-  pub edge-tests :
-      Tested (edgeAt f at p) (eqb (lenAt f at) 6) (edgeOk (c .nodes) (c .variables) (edgeIn f at)) (ltb (c .edges) maxEdges)
-      (lastIs 4 4 (take (c .atoms * 5) bs) (word f (at + 7))) at (next (after f at) (addEdge p (edgeIn f at)))
+  pub edge-tests : (long : Bool)
+      → Tested (edgeAt long f at p) (eqb (lenAt f at) (edgeLen long)) (edgeOk (c .nodes) (c .variables) (edgeIn long f at)) (ltb (c .edges) maxEdges)
+      (lastIs 4 4 (take (c .atoms * 5) bs) (word f (at + 7))) at (next (after f at) (addEdge p (edgeIn long f at)))
   unfolding edgeAt
-  edge-tests = record { is = simp (← t .nodes, ← t .variables, ← t .edges .count, t .atoms .rows, uses-atoms) }
+  edge-tests long = record { is = simp (← t .nodes, ← t .variables, ← t .edges .count, t .atoms .rows, uses-atoms) }
 
-  pub edge-tables : {d : List ℕ} → take ((c .edges + 1) * 3) d ≡ take (c .edges * 3) es ++ edgeRow (edgeIn f at)
-      → Tables (addEdge p (edgeIn f at)) (counting c (c .edges + 1) (c .atoms) (c .clauses) (c .literals)) d bs cs
-  edge-tables h = record {
+  pub edge-tables : (long : Bool) {d : List ℕ} → take ((c .edges + 1) * 4) d ≡ take (c .edges * 4) es ++ edgeRow (edgeIn long f at)
+      → Tables (addEdge p (edgeIn long f at)) (counting c (c .edges + 1) (c .atoms) (c .clauses) (c .literals)) d bs cs
+  edge-tables long h = record {
     nodes = t .nodes;
     variables = t .variables;
-    edges = one-more _ edgeRow (rows-more edgeRow) (edgeIn f at) (t .edges) h;
+    edges = one-more _ edgeRow (rows-more edgeRow) (edgeIn long f at) (t .edges) h;
     atoms = t .atoms;
     clauses = t .clauses;
     literals = t .literals;
@@ -86,7 +86,7 @@ module _ (f : List ℕ) (at : ℕ) {p : PlanFile} {c : counted.Plan} {es bs : Li
 
   pub atom-tests :
       Tested (atomAt f at p) (eqb (lenAt f at) 9) (atomOk (c .nodes) (c .variables) (kindIn f at) (atomIn f at)) (ltb (c .atoms) maxAtoms)
-      (lastIs 2 2 (take (c .edges * 3) es) (word f (at + 10))) at (next (after f at) (addAtom p (atomIn f at)))
+      (lastIs 3 3 (take (c .edges * 4) es) (word f (at + 10))) at (next (after f at) (addAtom p (atomIn f at)))
   unfolding atomAt
   atom-tests = record { is = simp (← t .nodes, ← t .variables, ← t .atoms .count, t .edges .rows, uses-edges) }
 

@@ -21,7 +21,7 @@ use Rattle.reader.specs.declared.ReadAnswer.the-variants.{Accepted, Refu
 
 -- The numbers of an edge and of an atom in their tables, and of a list of them, row after row.
 abbrev pub edgeRow : Edge → List ℕ
-edgeRow e = e .from ∷ e .to ∷ e .variable ∷ []
+edgeRow e = e .from ∷ e .to ∷ e .length ∷ e .variable ∷ []
 
 abbrev pub atomRow : Atom → List ℕ
 atomRow a = numberOfKind (a .kind) ∷ a .from ∷ a .to ∷ a .bound ∷ a .variable ∷ []
@@ -53,7 +53,7 @@ pub record Filled {A B : Type 0} (flatten : List A → List B) (things : List A)
 pub record Tables (p : PlanFile) (c : counted.Plan) (es bs : List ℕ) (cs : List ℤ) : Type 0 where
   pub nodes : p .nodes ≡ c .nodes
   pub variables : p .variables ≡ c .variables
-  pub edges : Filled (rowsOf edgeRow) (p .edges) (c .edges) (c .edges * 3) es
+  pub edges : Filled (rowsOf edgeRow) (p .edges) (c .edges) (c .edges * 4) es
   pub atoms : Filled (rowsOf atomRow) (p .atoms) (c .atoms) (c .atoms * 5) bs
   pub clauses : Filled flat (p .clauses) (c .clauses) (c .literals + c .clauses) cs
   pub literals : literals (p .clauses) ≡ c .literals

@@ -8,8 +8,8 @@ use lib.IntN.{ℤ, pos, negsuc, natAbs}
 use lib.ListN.{length, getD}
 use Rattle.plan.specs.Meaning.{Edge, Atom, PlanFile, numberOfKind, kindOf}
 use Rattle.plan.specs.declared.Kind.{Kind}
-use Rattle.plan.specs.declared.Kind.the-variants.{Reaches, Within}
-use Rattle.plan.specs.Ranged.{maxBytes, maxNodes, maxVariables, maxEdges, maxAtoms, maxBound, maxClauses, maxLiterals, literals}
+use Rattle.plan.specs.declared.Kind.the-variants.{Reaches, Within, LengthAtMost}
+use Rattle.plan.specs.Ranged.{maxBytes, maxNodes, maxVariables, maxEdges, maxLength, maxAtoms, maxBound, maxLengthBound, maxClauses, maxLiterals, literals}
 
 -- What a record leads to: a refusal with its number and returned value, the plan file so far with the next record's offset, or the whole.
 pub data Step : Type 0 where
@@ -70,13 +70,19 @@ headOk nodes variables = leb 1 nodes && leb nodes maxNodes && leb 1 variables &&
 unfoldable pub endsOk : ℕ → ℕ → ℕ → ℕ → ℕ → Bool
 endsOk nodes variables from to variable = ltb from nodes && ltb to nodes && variableOk variables variable
 
-abbrev pub edgeOk : ℕ → ℕ → Edge → Bool
-edgeOk nodes variables e = endsOk nodes variables (e .from) (e .to) (e .variable)
+-- "a fourth field, 1 to 65,535" (02, C-13)
+unfoldable pub lengthOk : ℕ → Bool
+lengthOk length = leb 1 length && leb length maxLength
 
--- "Kind 1 is 'reaches', bound 0. Kind 2 is 'within', bound 0 to 255.": the number is that of a kind, and the bound is in its range.
+abbrev pub edgeOk : ℕ → ℕ → Edge → Bool
+edgeOk nodes variables e = endsOk nodes variables (e .from) (e .to) (e .variable) && lengthOk (e .length)
+
+-- "Kind 1 is 'reaches', bound 0. Kind 2 is 'within', bound 0 to 255."; "kind 3, 'length at most', bound 0 to 65,535" (02, C-13): the number is that of a
+-- kind, and the bound is in its range.
 abbrev pub boundOk : Kind → ℕ → Bool
 boundOk Reaches bound = eqb bound 0
 boundOk Within bound = leb bound maxBound
+boundOk LengthAtMost bound = leb bound maxLengthBound
 
 unfoldable pub kindOk : ℕ → ℕ → Bool
 kindOk number bound = eqb (numberOfKind (kindOf number)) number && boundOk (kindOf number) bound
@@ -103,10 +109,18 @@ edgeUses = serves (λ e. e .variable)
 abbrev pub atomUses : List Atom → ℕ → Bool
 atomUses = serves (λ a. a .variable)
 
--- "2 edge: from, to, variable (u16 each). 3 atom: kind (u8), from, to, bound, variable (u16 each). 4 clause: literals": the values of the record
--- at an offset
-abbrev pub edgeIn : List ℕ → ℕ → Edge
-edgeIn f at = record { from = word f (at + 3); to = word f (at + 5); variable = word f (at + 7) }
+-- "2 edge: from, to, variable (u16 each). 3 atom: kind (u8), from, to, bound, variable (u16 each). 4 clause: literals"; "new tag 6 is an edge with a
+-- fourth field .., and tag 2 means length 1" (02, C-13): the values of the record at an offset; an edge's by whether it has the fourth field.
+abbrev pub edgeLen : Bool → ℕ
+edgeLen false = 6
+edgeLen true = 8
+
+abbrev pub lengthIn : Bool → List ℕ → ℕ → ℕ
+lengthIn false f at = 1
+lengthIn true f at = word f (at + 9)
+
+abbrev pub edgeIn : Bool → List ℕ → ℕ → Edge
+edgeIn long f at = record { from = word f (at + 3); to = word f (at + 5); length = lengthIn long f at; variable = word f (at + 7) }
 
 abbrev pub kindIn : List ℕ → ℕ → ℕ
 kindIn f at = getD f (at + 3) 0
@@ -137,10 +151,10 @@ abbrev pub emptyPlan : ℕ → ℕ → PlanFile
 emptyPlan nodes variables = record { nodes = nodes; variables = variables; edges = []; atoms = []; clauses = [] }
 
 -- the records, each with its checks
-unfoldable pub edgeAt : List ℕ → ℕ → PlanFile → Step
-edgeAt f at p =
-    inOrder (eqb (lenAt f at) 6) (edgeOk (p .nodes) (p .variables) (edgeIn f at)) (ltb (length (p .edges)) maxEdges) (not (atomUses (p .atoms) (edgeIn f at .variable))) at
-    (next (after f at) (addEdge p (edgeIn f at)))
+unfoldable pub edgeAt : Bool → List ℕ → ℕ → PlanFile → Step
+edgeAt long f at p =
+    inOrder (eqb (lenAt f at) (edgeLen long)) (edgeOk (p .nodes) (p .variables) (edgeIn long f at)) (ltb (length (p .edges)) maxEdges) (not (atomUses (p .atoms) (edgeIn long f at .variable))) at
+    (next (after f at) (addEdge p (edgeIn long f at)))
 
 unfoldable pub atomAt : List ℕ → ℕ → PlanFile → Step
 atomAt f at p =
@@ -171,11 +185,12 @@ endAt f at p =
 abbrev pub tagged : ℕ → List ℕ → ℕ → PlanFile → Step
 tagged tag f at p =
     check (not (eqb tag 1)) 3 at
-    (pick (eqb tag 2) (edgeAt f at p)
+    (pick (eqb tag 2) (edgeAt false f at p)
     (pick (eqb tag 3) (atomAt f at p)
     (pick (eqb tag 4) (clauseAt f at p)
     (pick (eqb tag 5) (endAt f at p)
-    (refuse 4 at)))))
+    (pick (eqb tag 6) (edgeAt true f at p)
+    (refuse 4 at))))))
 
 unfoldable pub stepAt : List ℕ → ℕ → PlanFile → Step
 stepAt f at p = check (fits f at) 2 at (tagged (tagAt f at) f at p)

@@ -3,7 +3,7 @@ ghost use mathlib.Core.Path.{_≡_};
 ghost use Prim.Native.Nat.{_+_, _<_, _≤_};
 ghost use lib.ListN.{length};
 ghost use Rattle.plan.specs.Tables.{edgeOf, atomOf};
-ghost use Rattle.reader.specs.Format.{word, twos, fits, headOk, endsOk, boundOk, kindOk, edgeOk, atomOk, literalOk, edgeIn, kindIn, atomIn};
+ghost use Rattle.reader.specs.Format.{word, twos, fits, headOk, endsOk, lengthOk, boundOk, kindOk, edgeOk, atomOk, literalOk, edgeLen, lengthIn, edgeIn, kindIn, atomIn};
 use plan::Atom;
 use plan::Edge;
 use plan::Kind;
@@ -43,14 +43,35 @@ pub fn literal(x: u16) -> i16
     }
 }
 
+// The value length of an edge, with its length as a fourth field or without.
+pub fn edge_len(long: bool) -> u16
+    ensures { λ r. ⌜ r ≡ edgeLen long ⌝ }
+{
+    if long {
+        return 8;
+    }
+    6
+}
+
+fn length_in(file: &[u8], at: usize, long: bool) -> u16
+    requires { ⌜ at + 3 + edgeLen long ≤ length (now file) ⌝ }
+    ensures { λ r. ⌜ r ≡ lengthIn long (now (file .entry)) at ⌝ }
+{
+    if long {
+        return word(file, at + 9);
+    }
+    1
+}
+
 // The edge of the record at an offset.
-pub fn edge_in(file: &[u8], at: usize) -> Edge
-    requires { ⌜ at + 9 ≤ length (now file) ⌝ }
-    ensures { λ r. ⌜ edgeOf r ≡ edgeIn (now (file .entry)) at ⌝ }
+pub fn edge_in(file: &[u8], at: usize, long: bool) -> Edge
+    requires { ⌜ at + 3 + edgeLen long ≤ length (now file) ⌝ }
+    ensures { λ r. ⌜ edgeOf r ≡ edgeIn long (now (file .entry)) at ⌝ }
 {
     Edge {
         from: word(file, at + 3),
         to: word(file, at + 5),
+        length: length_in(file, at, long),
         variable: word(file, at + 7),
     }
 }
@@ -108,12 +129,22 @@ fn ends_ok(counts: Plan, from: u16, to: u16, variable: u16) -> bool
     variable <= counts.variables
 }
 
+fn length_ok(length: u16) -> bool
+    ensures { λ r. ⌜ r ≡ lengthOk length ⌝ }
+{
+    if length < 1 {
+        return false;
+    }
+    length <= Edge::MAX_LENGTH
+}
+
 fn bound_ok(kind: Kind, bound: u16) -> bool
     ensures { λ r. ⌜ r ≡ boundOk kind bound ⌝ }
 {
     match kind {
         Kind::Reaches => bound == 0,
         Kind::Within => bound <= Atom::MAX_BOUND,
+        Kind::LengthAtMost => bound <= Atom::MAX_LENGTH_BOUND,
     }
 }
 
@@ -130,7 +161,10 @@ fn kind_ok(number: u16, bound: u16) -> bool
 pub fn edge_ok(counts: Plan, edge: Edge) -> bool
     ensures { λ r. ⌜ r ≡ edgeOk (counts .nodes) (counts .variables) (edgeOf edge) ⌝ }
 {
-    ends_ok(counts, edge.from, edge.to, edge.variable)
+    if !ends_ok(counts, edge.from, edge.to, edge.variable) {
+        return false;
+    }
+    length_ok(edge.length)
 }
 
 pub fn atom_ok(counts: Plan, number: u16, atom: Atom) -> bool

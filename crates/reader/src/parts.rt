@@ -10,7 +10,7 @@ use plan::Plan;
 
 pub fn used_edges(plan: Plan, table: &[u16; Edge::TABLE]) -> &[u16]
     requires { ⌜ Room plan ⌝ }
-    ensures { λ r. ⌜ now r ≡ take (plan .edges * 3) (now (table .entry)) ⌝ }
+    ensures { λ r. ⌜ now r ≡ take (plan .edges * 4) (now (table .entry)) ⌝ }
 {
     let whole: &[u16] = table;
     let n = plan.edges * Edge::NUMBERS;

@@ -14,6 +14,7 @@ use crate::Step;
 use crate::fields::atom_in;
 use crate::fields::atom_ok;
 use crate::fields::edge_in;
+use crate::fields::edge_len;
 use crate::fields::edge_ok;
 use crate::fields::kind_in;
 use crate::fields::literal;
@@ -29,13 +30,14 @@ use plan::wide;
 
 // Writes the row of an edge behind n others; put_atom that of an atom.
 fn put_edge(table: &mut [u16], n: usize, edge: Edge)
-    requires { ⌜ (n + 1) * 3 ≤ length (now table) ⌝ }
-    ensures { λ _. ⌜ take ((n + 1) * 3) (now (table .exit)) ≡ take (n * 3) (now (table .entry)) ++ edgeRow (edgeOf edge) ⌝ }
+    requires { ⌜ (n + 1) * 4 ≤ length (now table) ⌝ }
+    ensures { λ _. ⌜ take ((n + 1) * 4) (now (table .exit)) ≡ take (n * 4) (now (table .entry)) ++ edgeRow (edgeOf edge) ⌝ }
 {
     let row = n * Edge::NUMBERS;
     table[row] = edge.from;
     table[row + 1] = edge.to;
-    table[row + 2] = edge.variable;
+    table[row + 2] = edge.length;
+    table[row + 3] = edge.variable;
 }
 
 fn put_atom(table: &mut [u16], n: usize, atom: Atom)
@@ -107,22 +109,24 @@ fn uses(table: &[u16], used: usize, before: usize, variable: u16) -> bool
     false
 }
 
-// Takes the edge of the record at an offset into its table; or refuses it by the first refusal that the record meets, in the
-// document's order. The others do the same for their sorts.
+// Takes the edge of the record at an offset, with a length field or without, into its table; or refuses it by the first refusal that the record
+// meets, in the document's order. The others do the same for their sorts.
 fn take_edge(
     file: &[u8],
     at: usize,
+    long: bool,
     counts: Plan,
     edges: &mut [u16; Edge::TABLE],
     atoms: &[u16; Atom::TABLE],
 ) -> Step
     requires { ⌜ Ready (now file) at counts ⌝ }
-    ensures { λ r. ⌜ ((cs : List ℤ) → Takes (edgeAt (now (file .entry)) at) counts (now (edges .entry)) (now (atoms .entry)) cs r (now (edges .exit)) (now (atoms .entry)) cs) ⌝ }
+    ensures { λ r. ⌜ ((cs : List ℤ) → Takes (edgeAt long (now (file .entry)) at) counts (now (edges .entry)) (now (atoms .entry)) cs r (now (edges .exit)) (now (atoms .entry)) cs) ⌝ }
 {
-    if word(file, at + 1) != 6 {
+    let len = edge_len(long);
+    if word(file, at + 1) != len {
         return Step::Refuse(Refusal::BadLength(at));
     }
-    let edge = edge_in(file, at);
+    let edge = edge_in(file, at, long);
     if !edge_ok(counts, edge) {
         return Step::Refuse(Refusal::OutOfRange(at));
     }
@@ -137,7 +141,7 @@ fn take_edge(
     put_edge(edges, n, edge);
     let mut next = counts;
     next.edges = n + 1;
-    Step::Next(at + 9, next)
+    Step::Next(at + 3 + wide(len), next)
 }
 
 fn take_atom(
@@ -162,7 +166,7 @@ fn take_atom(
         return Step::Refuse(Refusal::TooMany(at));
     }
     let used = counts.edges * Edge::NUMBERS;
-    if uses(edges, used, 2, atom.variable) {
+    if uses(edges, used, 3, atom.variable) {
         return Step::Refuse(Refusal::Shared(at));
     }
     put_atom(atoms, n, atom);
@@ -229,10 +233,11 @@ pub fn take_record(
     }
     match file[at] {
         1 => Step::Refuse(Refusal::Misplaced(at)),
-        2 => take_edge(file, at, counts, edges, atoms),
+        2 => take_edge(file, at, false, counts, edges, atoms),
         3 => take_atom(file, at, counts, edges, atoms),
         4 => take_clause(file, at, counts, clauses),
         5 => take_end(file, at, counts),
+        6 => take_edge(file, at, true, counts, edges, atoms),
         _ => Step::Refuse(Refusal::UnknownTag(at)),
     }
 }

@@ -12,7 +12,7 @@ use Rattle.plan.specs.Meaning.{Atom, PlanFile, edge, on, off, trueIn}
 use Rattle.plan.specs.Closing.{Settles}
 use Rattle.plan.specs.Reason.{Cut, HoldsBy, FailsBy}
 use Rattle.plan.proofs.Lists.{mem-at}
-use Rattle.walk.specs.Hopping.{Placed}
+use Rattle.walk.specs.Walking.{Placed}
 use Rattle.reason.specs.Answers.{AnswerIs, Answers}
 use Rattle.reason.specs.Marks.{Away, PathMarked, premises, clauseOf}
 use Rattle.reason.specs.declared.Answer.{Answer}

@@ -13,7 +13,7 @@ use Rattle.plan.specs.Meaning.{Edge, Atom, PlanFile, Graph, edge, costOf, trueI
 use Rattle.plan.specs.Reason.{Across, LeavesAt, EndsBeyond, Cut}
 use Rattle.plan.specs.declared.Kind.{Kind}
 use Rattle.plan.proofs.Lists.{le-or-lt}
-use Rattle.walk.specs.Hopping.{reachedIn, distanceIn, DistanceTable}
+use Rattle.walk.specs.Walking.{reachedIn, distanceIn, DistanceTable}
 use Rattle.walk.proofs.Truths.{reached-distance, distance-reached, distance-is}
 use Rattle.reason.specs.Marks.{MarksAlso, Crossing, CutAt, CutBelow}
 

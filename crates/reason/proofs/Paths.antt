@@ -1,21 +1,22 @@
--- Marks on variables, and the path read back from a node: what each hop marks.
+-- Marks on variables, and the path read back from a node: what each edge marks.
 -- Assumes nothing.
 use mathlib.Core.Path.{_≡_, refl, sym, ap, subst, subst₂, _∙_}
 use mathlib.Core.Logic.{_↔_, _⊎_, inl, inr, ⊎-elim}
 use mathlib.Core.Bool.{Bool, true, false}
 use mathlib.Core.List.{List, [], _∷_, List·Memᴰ, List·Memᴰ·head, List·Memᴰ·tail, List·Memᴰ·cases-cons, List·Memᴰ·not-nil}
-use Prim.Native.Nat.{ℕ, suc, _-_, _≤_, _<_}
+use Prim.Native.Nat.{ℕ, suc, _+_, _-_, _≤_, _<_}
 use native.Mathlib.Decide.{ℕ-discrete}
 use native.Mathlib.Omega.{arith}
 use lib.ListN.{length, getD, set, length-set}
 use lib.Seq.{getD-set-same, getD-set-other}
 use lib.IntN.{ℤ}
 use lib.Dec.{T}
-use Rattle.plan.specs.Meaning.{Edge, Atom, Graph, Cost, edge, costOf}
+use Rattle.plan.specs.Meaning.{Edge, Atom, Graph, Cost, edge, measureOf, costOf}
 use Rattle.plan.specs.Reason.{Nearer, Back, source, step}
 use Rattle.plan.proofs.Lists.{mem-at}
+use Rattle.plan.proofs.Walks.{pays-by}
 use Rattle.plan.proofs.Explain.{last-nearer}
-use Rattle.walk.specs.Hopping.{Placed}
+use Rattle.walk.specs.Walking.{Placed}
 use Rattle.reason.specs.Marks.{Fits, EdgeFits, MarksAlso, holding, Away, Leads, FirstNearer, PathMarked}
 
 -- ---- marks
@@ -89,35 +90,46 @@ module _ (es : List Edge) (a : List ℤ) (A : Atom) {node k : ℕ} where
   pub first-in : {e : Edge} → FirstNearer es a A node k e → List·Memᴰ e es
   first-in f = subst (λ x. List·Memᴰ x es) (sym (f .2)) (mem-at es _ (f .0) (f .1 .is .listed))
 
-  -- its start is one hop nearer
-  module _ {e : Edge} (f : FirstNearer es a A node k e) (from : ℕ) (u : from ≡ e .from) where
-    at-start : edge es (f .0) .from ≡ from
-    at-start = sym (u ∙ ap (λ x. x .from) (f .2))
+  -- what it costs, as the code computes it
+  module _ {e : Edge} (f : FirstNearer es a A node k e) (cost : ℕ) (paid : cost ≡ costOf (A .kind) e) where
+    pub cost-low : Fits es a → 1 ≤ cost
+    cost-low fits = omega (arith, pays-by (measureOf (A .kind)) es (fits .long) e (first-in f))
 
-    before-is : f .1 .is .before ≡ k - 1
-    before-is = omega (arith, f .1 .is .sum)
+    nearer-by : k ≡ f .1 .is .before + cost
+    nearer-by = f .1 .is .sum ∙ ap (λ (i : ℕ). f .1 .is .before + i) (ap (costOf (A .kind)) (sym (f .2)) ∙ sym paid)
 
-    pub start-away : Away es a A from (k - 1)
-    start-away = subst₂ (λ w i. Away es a A w i) at-start before-is (f .1 .is .near)
+    pub cost-high : cost ≤ k
+    cost-high = omega (arith, nearer-by)
 
-    -- ---- the path
+    -- its start is nearer by that
+    module _ (from : ℕ) (u : from ≡ e .from) where
+      at-start : edge es (f .0) .from ≡ from
+      at-start = sym (u ∙ ap (λ x. x .from) (f .2))
 
-    pub path-more : {m n o : List Bool} → MarksAlso (λ v. v ≡ e .variable) m n → PathMarked es a A from (k - 1) n o → PathMarked es a A node k m o
-    path-more {m} {n} {o} first rest = record {
-      path = e .variable ∷ rest .path;
-      back = subst (λ (v : ℕ). Back (costOf (A .kind)) es (holding a A) (A .from) node k (v ∷ rest .path)) (sym (ap (λ x. x .variable) (f .2)))
-          (step (f .1) (subst₂ (λ w i. Back (costOf (A .kind)) es (holding a A) (A .from) w i (rest .path)) (sym at-start) (sym before-is) (rest .back)));
-      marks = marks-as (λ v. ((λ c. ⊎-elim (λ i. List·Memᴰ·head i) (λ i. List·Memᴰ·tail i) c), (λ i. List·Memᴰ·cases-cons i))) (marks-then first (rest .marks));
-    }
+      before-is : f .1 .is .before ≡ k - cost
+      before-is = omega (arith, nearer-by)
 
-  pub path-none : (m : List Bool) → k ≡ 0 → Away es a A node k → PathMarked es a A node k m m
-  path-none m z h = ⊎-elim
+      pub start-away : Away es a A from (k - cost)
+      start-away = subst₂ (λ w i. Away es a A w i) at-start before-is (f .1 .is .near)
+
+      -- ---- the path
+
+      pub path-more : {m n o : List Bool} → MarksAlso (λ v. v ≡ e .variable) m n → PathMarked es a A from (k - cost) n o → PathMarked es a A node k m o
+      path-more {m} {n} {o} first rest = record {
+        path = e .variable ∷ rest .path;
+        back = subst (λ (v : ℕ). Back (costOf (A .kind)) es (holding a A) (A .from) node k (v ∷ rest .path)) (sym (ap (λ x. x .variable) (f .2)))
+            (step (f .1) (subst₂ (λ w i. Back (costOf (A .kind)) es (holding a A) (A .from) w i (rest .path)) (sym at-start) (sym before-is) (rest .back)));
+        marks = marks-as (λ v. ((λ c. ⊎-elim (λ i. List·Memᴰ·head i) (λ i. List·Memᴰ·tail i) c), (λ i. List·Memᴰ·cases-cons i))) (marks-then first (rest .marks));
+      }
+
+  pub path-none : (m : List Bool) → Fits es a → k ≡ 0 → Away es a A node k → PathMarked es a A node k m m
+  path-none m fits z h = ⊎-elim
       (λ e. record {
         path = [];
         back = subst₂ (λ w i. Back (costOf (A .kind)) es (holding a A) (A .from) w i []) (e .0) (sym z) source;
         marks = marks-none m (λ v i. List·Memᴰ·not-nil i);
       })
-      (λ q. absurd (omega (arith, q .1 .sum)))
+      (λ q. absurd (omega (arith, q .1 .sum, pays-by (measureOf (A .kind)) es (fits .long) (edge es (q .0)) (mem-at es _ (q .0) (q .1 .listed)))))
       (last-nearer (h .walk) (h .fewest))
 
 -- the variables of a path have places in the assignment

@@ -11,15 +11,17 @@ use lib.Dec.{T}
 use Rattle.plan.specs.Meaning.{Edge, Atom, Graph, PlanFile, edge, Distance, costOf, graphOf, literalOf, off, trueIn}
 use Rattle.plan.specs.Buffers.{Wrote}
 use Rattle.plan.specs.Closing.{settling}
-use Rattle.plan.specs.Ranged.{maxNodes, maxVariables, EndsFit}
+use Rattle.plan.specs.Ranged.{maxNodes, maxVariables, maxEdges, EndsFit}
 use Rattle.plan.specs.Reason.{Smallest, Nearer, Back, Across, Cut}
-use Rattle.walk.specs.Hopping.{Inside, Placed, Settling}
+use Rattle.walk.specs.Walking.{Inside, Placed, Settling}
 use Rattle.reason.specs.Answers.{Over}
 
--- What is asked of the edges and of the assignment: ends and variables in range, and no more variables than a plan file has.
+-- What is asked of the edges and of the assignment: ends, lengths and variables in range, and no more edges and variables than a plan file has.
 pub record Fits (es : List Edge) (a : List ℤ) : Type 0 where
   pub inside : Inside es
   pub placed : Placed es (length a)
+  pub long : (e : Edge) → List·Memᴰ e es → 1 ≤ e .length
+  pub edges : length es ≤ maxEdges
   pub few : length a ≤ maxVariables
 
 -- And with them the distances by which the atom holds (true) or fails (false).

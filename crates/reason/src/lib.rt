@@ -14,11 +14,11 @@ ghost use Prim.Native.Nat.{_+_, _*_, _<_, _≤_};
 ghost use lib.Dec.{T};
 ghost use lib.ListN.{length};
 ghost use Rattle.plan.specs.Closing.{Settles};
-ghost use Rattle.plan.specs.Meaning.{atom, literalOf, trueIn};
+ghost use Rattle.plan.specs.Meaning.{atom, costOf, literalOf, trueIn};
 ghost use Rattle.plan.specs.Ranged.{maxNodes, maxVariables};
 ghost use Rattle.plan.specs.Reason.{LeavesAt, EndsBeyond};
 ghost use Rattle.plan.specs.Tables.{edgesOf, atomsOf, edgeOf, atomOf};
-ghost use Rattle.walk.specs.Hopping.{Settling};
+ghost use Rattle.walk.specs.Walking.{Settling};
 ghost use Rattle.reason.specs.Answers.{AnswerIs, Over, Answers, Asked};
 ghost use Rattle.reason.specs.Marks.{Fits, Told, EdgeFits, Away, LeadsNearer, FirstNearer, PathMarked, MarksAlso, Crosses, CutAt, MarksCut, premises, piece, clauseOf, Appends};
 
@@ -34,13 +34,28 @@ pub enum Answer {
 type Marks = [bool; Assignment::MAX];
 
 // The distances from the atom's source in the graph by which it would hold, or in that by which it would fail.
-fn distances_by(edges: &[u16], assignment: &[i8], atom: Atom, holds: bool) -> Distances
+fn distances_for(edges: &[u16], assignment: &[i8], atom: Atom, holds: bool) -> Distances
     requires { ⌜ Fits (edgesOf (now edges)) (now assignment) ⌝ }
     requires { ⌜ atom .from < maxNodes ⌝ }
     ensures { λ r. ⌜ Settling (edgesOf (now (edges .entry))) (now (assignment .entry)) (atomOf atom) holds r ⌝ }
 {
-    let neighbours = walk::neighbours(edges, assignment, plan::settling_side(holds));
-    walk::walk(&neighbours, plan::wide(atom.from))
+    let kind = atom.kind;
+    let side = plan::settling_side(holds);
+    walk::distances_by(
+        plan::measure_of(kind),
+        edges,
+        assignment,
+        side,
+        plan::wide(atom.from),
+    )
+}
+
+// What an edge adds to a path, as the atom counts it.
+fn cost_for(atom: Atom, edge: Edge) -> u64
+    ensures { λ r. ⌜ r ≡ costOf (atom .kind) (edgeOf edge) ⌝ }
+{
+    let kind = atom.kind;
+    plan::cost_by(plan::measure_of(kind), edge)
 }
 
 fn mark(variable: u16, marks: &mut Marks)
@@ -53,7 +68,7 @@ fn mark(variable: u16, marks: &mut Marks)
     marks[at] = true;
 }
 
-// Whether an edge leads to `node`, which is `count` away, from a node that is one hop nearer.
+// Whether an edge leads to `node`, which is `count` away, from a node that is nearer by what the edge costs.
 fn leads_nearer(
     assignment: &[i8],
     atom: Atom,
@@ -63,7 +78,6 @@ fn leads_nearer(
     count: u64,
 ) -> bool
     requires { ⌜ EdgeFits (now assignment) (edgeOf edge) ⌝ }
-    requires { ⌜ 1 ≤ count ⌝ }
     ensures { λ r. ⌜ LeadsNearer (now (assignment .entry)) (atomOf atom) (edgeOf edge) (now (distances .entry)) node count r ⌝ }
 {
     if plan::wide(edge.to) != node {
@@ -76,10 +90,14 @@ fn leads_nearer(
     if !walk::is_reached(distances, from) {
         return false;
     }
-    walk::distance(distances, from) == count - 1
+    let near = walk::distance(distances, from);
+    if count < near {
+        return false;
+    }
+    count - near == cost_for(atom, edge)
 }
 
-// The smallest-numbered edge that leads to `node`, which is `count` away, from a node that is one hop nearer.
+// The smallest-numbered edge that leads to `node`, which is `count` away, from a node that is nearer by what the edge costs.
 fn nearer_edge(
     edges: &[u16],
     assignment: &[i8],
@@ -105,11 +123,12 @@ fn nearer_edge(
     Edge {
         from: 0,
         to: 0,
+        length: 0,
         variable: 0,
     }
 }
 
-// Marks the variables of the path to `node`, which is `count` hops from the source, read back one hop at a time.
+// Marks the variables of the path to `node`, which is `count` from the source, read back one edge at a time: each call is that much nearer.
 fn mark_path(
     edges: &[u16],
     assignment: &[i8],
@@ -130,7 +149,8 @@ fn mark_path(
     let edge = nearer_edge(edges, assignment, atom, distances, node, count);
     mark(edge.variable, marks);
     let from = plan::wide(edge.from);
-    mark_path(edges, assignment, atom, distances, from, count - 1, marks);
+    let left = count - cost_for(atom, edge);
+    mark_path(edges, assignment, atom, distances, from, left, marks);
 }
 
 // Whether an edge that starts at this distance is left in time.
@@ -140,7 +160,17 @@ fn leaves_at(kind: Kind, bound: u16, near: u64) -> bool
     match kind {
         Kind::Reaches => true,
         Kind::Within => near < (bound as u64),
+        Kind::LengthAtMost => near < (bound as u64),
     }
+}
+
+fn is_beyond(near: u64, cost: u64, far: u64) -> bool
+    ensures { λ r. ⌜ (T r ↔ (near + cost < far)) ⌝ }
+{
+    if far <= near {
+        return false;
+    }
+    far - near > cost
 }
 
 // Whether a node at the distance `far` is beyond an edge that starts at the distance `near` and costs so much.
@@ -149,12 +179,8 @@ fn ends_beyond(kind: Kind, near: u64, cost: u64, far: u64) -> bool
 {
     match kind {
         Kind::Reaches => false,
-        Kind::Within => {
-            if far <= near {
-                return false;
-            }
-            far - near > cost
-        }
+        Kind::Within => is_beyond(near, cost, far),
+        Kind::LengthAtMost => is_beyond(near, cost, far),
     }
 }
 
@@ -179,7 +205,12 @@ fn crosses(assignment: &[i8], atom: Atom, edge: Edge, distances: &Distances) -> 
     if !walk::is_reached(distances, to) {
         return true;
     }
-    ends_beyond(kind, near, 1, walk::distance(distances, to))
+    ends_beyond(
+        kind,
+        near,
+        cost_for(atom, edge),
+        walk::distance(distances, to),
+    )
 }
 
 // Marks the variable of the edge numbered `k`, from 0, where it is off and leads across.
@@ -192,7 +223,7 @@ fn mark_edge(
     marks: &mut Marks,
 )
     requires { ⌜ Told (edgesOf (now edges)) (now assignment) (atomOf atom) false (now distances) ⌝ }
-    requires { ⌜ k * 3 + 2 < length (now edges) ⌝ }
+    requires { ⌜ k * 4 + 3 < length (now edges) ⌝ }
     requires { ⌜ length (now marks) ≡ maxVariables ⌝ }
     ensures { λ _. ⌜ Over (edgesOf (now (edges .entry))) (λ φ. MarksAlso (CutAt k φ (now (assignment .entry)) (atomOf atom)) (now (marks .entry)) (now (marks .exit))) ⌝ }
 {
@@ -343,8 +374,8 @@ pub fn reason(
     ensures { λ r. ⌜ Over (edgesOf (now (edges .entry))) (λ φ. AnswerIs φ (now (assignment .entry)) (atom (atomsOf (now (atoms .entry))) number) r (now (out .entry)) (now (out .exit))) ⌝ }
 {
     let atom = plan::atom_at(atoms, number);
-    let holding = distances_by(edges, assignment, atom, true);
-    let failing = distances_by(edges, assignment, atom, false);
+    let holding = distances_for(edges, assignment, atom, true);
+    let failing = distances_for(edges, assignment, atom, false);
     let state = walk::settled(atom, &holding, &failing);
     match state {
         State::Holds => reason_holds(edges, assignment, atom, &holding, out),

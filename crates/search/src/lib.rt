@@ -10,7 +10,8 @@ ghost use lib.ListN.{length, take};
 ghost use Rattle.plan.specs.Meaning.{trueIn};
 ghost use Rattle.plan.specs.Ranged.{maxVariables};
 ghost use Rattle.plan.specs.Search.{Assigned, Closes, CloseIs, Lowest};
-ghost use Rattle.plan.specs.Tables.{clausesOf, planOf, Lent};
+ghost use Rattle.plan.specs.Tables.{atomsOf, clausesOf, planOf, Lent};
+ghost use Rattle.walk.specs.Walking.{CountLengths};
 ghost use Rattle.index.specs.Places.{Indexed};
 ghost use Rattle.unit.specs.Clauses.{AllQuiet};
 ghost use Rattle.unit.specs.Queue.{Known};
@@ -45,16 +46,27 @@ fn closed(
     places: &[u16; Index::TABLE],
     a: Assignment,
     tried: i16,
+    lengths: u64,
 ) -> Part
     requires { ⌜ Lent plan (now edges) (now atoms) (now clauses) ⌝ }
     requires { ⌜ Indexed (now clauses) (now places) ⌝ }
     requires { ⌜ Assigned (plan .variables) (take (plan .variables) (a .values)) ⌝ }
     requires { ⌜ Known (now clauses) (take (plan .variables) (a .values)) tried ⌝ }
+    requires { ⌜ CountLengths (atomsOf (now atoms)) (plan .atoms) lengths ⌝ }
     ensures { λ r. ⌜ CloseIs (planOf plan (now (edges .entry)) (now (atoms .entry)) (now (clauses .entry))) (take (plan .variables) (a .values)) (closedOf (r .clash) (take (plan .variables) (r .set .values))) ⌝ }
 {
     let mut values = a.values;
     let n = plan::wide(plan.variables);
-    let clash = closing::close_after(plan, edges, atoms, clauses, places, tried, &mut values[..n]);
+    let clash = closing::close_after(
+        plan,
+        edges,
+        atoms,
+        clauses,
+        places,
+        tried,
+        &mut values[..n],
+        lengths,
+    );
     let set = Assignment { values: values };
     Part {
         clash: clash,
@@ -92,15 +104,17 @@ fn settle(
     from: usize,
     budget: u32,
     count: u32,
+    lengths: u64,
 ) -> Report
     requires { ⌜ Begins plan (now edges) (now atoms) (now clauses) (take (plan .variables) (a .values)) budget count ⌝ }
     requires { ⌜ Indexed (now clauses) (now places) ⌝ }
     requires { ⌜ Known (now clauses) (take (plan .variables) (a .values)) tried ⌝ }
     requires { ⌜ from ≤ plan .variables ⌝ }
     requires { ⌜ Filled (take (plan .variables) (a .values)) from ⌝ }
+    requires { ⌜ CountLengths (atomsOf (now atoms)) (plan .atoms) lengths ⌝ }
     ensures { λ r. ⌜ Reported (planOf plan (now (edges .entry)) (now (atoms .entry)) (now (clauses .entry))) (take (plan .variables) (a .values)) budget count (r .verdict) (take (plan .variables) (r .held .values)) (r .count) ⌝ }
 {
-    let part = closed(plan, edges, atoms, clauses, places, a, tried);
+    let part = closed(plan, edges, atoms, clauses, places, a, tried, lengths);
     let set = part.set;
     if part.clash {
         return Report {
@@ -127,6 +141,7 @@ fn settle(
         place,
         budget,
         count,
+        lengths,
     )
 }
 
@@ -141,11 +156,13 @@ fn branch(
     place: usize,
     budget: u32,
     count: u32,
+    lengths: u64,
 ) -> Report
     requires { ⌜ Begins plan (now edges) (now atoms) (now clauses) (take (plan .variables) (a .values)) budget count ⌝ }
     requires { ⌜ Indexed (now clauses) (now places) ⌝ }
     requires { ⌜ AllQuiet (trueIn (take (plan .variables) (a .values))) (clausesOf (now clauses)) ⌝ }
     requires { ⌜ Lowest (take (plan .variables) (a .values)) place ⌝ }
+    requires { ⌜ CountLengths (atomsOf (now atoms)) (plan .atoms) lengths ⌝ }
     ensures { λ r. ⌜ ((b : List ℤ) → Closes (planOf plan (now (edges .entry)) (now (atoms .entry)) (now (clauses .entry))) b (take (plan .variables) (a .values)) → Reported (planOf plan (now (edges .entry)) (now (atoms .entry)) (now (clauses .entry))) b budget count (r .verdict) (take (plan .variables) (r .held .values)) (r .count)) ⌝ }
 {
     if count == budget {
@@ -168,6 +185,7 @@ fn branch(
         place + 1,
         budget,
         count + 1,
+        lengths,
     );
     let verdict = tried.verdict;
     match verdict {
@@ -184,6 +202,7 @@ fn branch(
                 place + 1,
                 budget,
                 so_far,
+                lengths,
             )
         }
         _ => tried,
@@ -212,8 +231,21 @@ pub fn search(
 {
     let index = index::index_of(clauses);
     let places = index.places;
+    let lengths = walk::length_atoms(atoms, plan.atoms);
     let start = Assignment::all_open();
-    let outcome = settle(plan, edges, atoms, clauses, &places, start, 0, 0, budget, 0);
+    let outcome = settle(
+        plan,
+        edges,
+        atoms,
+        clauses,
+        &places,
+        start,
+        0,
+        0,
+        budget,
+        0,
+        lengths,
+    );
     let verdict = outcome.verdict;
     let count = outcome.count;
     match verdict {

@@ -2,23 +2,23 @@
 -- is used up.
 -- Assumes nothing.
 use mathlib.Core.Path.{_≡_, refl, sym, ap, _∙_, subst, subst₂}
-use mathlib.Core.Logic.{_⊎_, ⊎-elim}
-use mathlib.Core.Bool.{_&&_}
+use mathlib.Core.Logic.{_↔_, _⊎_, ⊎-elim}
 use mathlib.Core.List.{List}
-use Prim.Native.Nat.{ℕ, zero, suc, _+_, _*_, _-_, _/_, _%_, _^_, _<_, _≤_}
+use Prim.Native.Nat.{ℕ, zero, suc, _+_, _-_, _^_, _<_, _≤_}
 use native.Mathlib.Decide.{decLt}
 use native.Mathlib.Omega.{arith}
-use lib.Bits.{bitAnd, bitOr, or-lt, and-le-r}
-use lib.ListN.{length, getD, set, replicate, List·getD-eq-default}
+use lib.Bits.{bitAnd, bitOr, or-lt}
+use lib.ListN.{length, getD, set, replicate}
 use lib.Arith.{lt-one}
 use lib.Pow.{pow-lt}
-use lib.Dec.{T, T-not, not-T}
-use Rattle.plan.specs.Meaning.{Edge, Graph, Leads, Walk, stay, hop, Distance, oneHop}
-use Rattle.plan.proofs.Bools.{T?, or-cases, or-left, or-right, and-both, and-left, and-right}
+use lib.Dec.{T}
+use Rattle.plan.specs.Meaning.{Edge, Graph, Leads, Walk, stay, hop, oneHop}
+use Rattle.plan.proofs.Bools.{T?, or-cases, or-left, or-right}
 use Rattle.plan.proofs.Walks.{its-in}
-use Rattle.walk.specs.Hopping.{bit, Inside, Neighbours, reachedIn, DistanceTable}
+use Rattle.walk.specs.Walking.{bit, Inside, Neighbours, DistanceTable}
 use Rattle.walk.specs.Front.{size, Visited, Laid}
-use Rattle.walk.proofs.Sets.{zeros, bit-empty, bit-inside, bit-one, bit-or, bit-and, bit-not, bit-byte, size-or, size-one, size-le}
+use Rattle.walk.proofs.Sets.{zeros, bit-inside, bit-one, bit-or, bit-and-not, and-not-lt, size-or, size-one, size-le}
+use Rattle.walk.proofs.Reach.{laid-table}
 
 -- A walk from s over the sets of neighbours.
 pub data Trail (sets : List ℕ) (s : ℕ) : ℕ → ℕ → Type 0 where
@@ -39,7 +39,7 @@ pub record Bfs (sets : List ℕ) (s reached : ℕ) (counts queue : List ℕ) (ta
       → T (bit w reached) × (getD counts w 0 ≤ suc (getD counts (getD queue i 0) 0))
   pub many : tail ≡ size reached
   pub fits : reached < 2 ^ 64
-  pub numbered : length counts ≡ 72
+  pub numbered : length counts ≡ 66
   pub places : length queue ≡ 64
 
 pub tail-le : {sets : List ℕ} {s reached : ℕ} {counts queue : List ℕ} {tail head : ℕ} → Bfs sets s reached counts queue tail head → tail ≤ 64
@@ -55,16 +55,16 @@ module _ {sets : List ℕ} {s reached : ℕ} {counts queue : List ℕ} {tail hea
 
 -- ---- where the walk begins
 
-pub begin : (sets : List ℕ) (s reached : ℕ) → s < 64 → reached ≡ 2 ^ s → Bfs sets s reached (replicate 72 0) (set (replicate 64 0) 0 s) 1 0
+pub begin : (sets : List ℕ) (s reached : ℕ) → s < 64 → reached ≡ 2 ^ s → Bfs sets s reached (replicate 66 0) (set (replicate 64 0) 0 s) 1 0
 begin sets s reached l e = record {
   source = there;
-  begins = zeros 72 s;
-  sound = λ w t. subst₂ (λ (x k : ℕ). Trail sets s x k) (sym (only w t)) (sym (zeros 72 w)) start;
+  begins = zeros 66 s;
+  sound = λ w t. subst₂ (λ (x k : ℕ). Trail sets s x k) (sym (only w t)) (sym (zeros 66 w)) start;
   queued = λ w t. (0, omega arith, sym (only w t));
   seen = λ i m. rw (lt-one m) there;
-  low = λ i m. omega (arith, zeros 72 (getD (set (replicate 64 0) 0 s) i 0));
-  rising = λ i k a b. omega (arith, zeros 72 (getD (set (replicate 64 0) 0 s) i 0));
-  near = λ _ w t. omega (arith, zeros 72 w);
+  low = λ i m. omega (arith, zeros 66 (getD (set (replicate 64 0) 0 s) i 0));
+  rising = λ i k a b. omega (arith, zeros 66 (getD (set (replicate 64 0) 0 s) i 0));
+  near = λ _ w t. omega (arith, zeros 66 w);
   closed = λ i w m l t. absurd (omega arith);
   many = omega (arith, ap size e, size-one 64 s l);
   fits = omega (arith, e, pow-lt l);
@@ -83,24 +83,20 @@ begin sets s reached l e = record {
 module _ (sets : List ℕ) (s reached : ℕ) (counts queue : List ℕ) (tail head : ℕ)
     (b : Bfs sets s reached counts queue tail head) (room : head < tail) (node new : ℕ) (is-node : node ≡ getD queue head 0)
     (is-new : new ≡ bitAnd (getD sets node 0) (2 ^ 64 - 1 - reached)) where
-  split : (w : ℕ) → bit w new ≡ bit w (getD sets node 0) && bit w (2 ^ 64 - 1 - reached)
-  split w = ap (bit w) is-new ∙ bit-and w (getD sets node 0) (2 ^ 64 - 1 - reached)
-
-  from-node : (w : ℕ) → T (bit w new) → T (bit w (getD sets node 0))
-  from-node w t = and-left (bit w (getD sets node 0)) _ (subst (λ x. T x) (split w) t)
-
   small : new < 2 ^ 64
-  small = omega (arith, ap (λ (x : ℕ). x) is-new, and-le-r (getD sets node 0) (2 ^ 64 - 1 - reached))
+  small = subst (λ (x : ℕ). x < 2 ^ 64) (sym is-new) (and-not-lt (getD sets node 0) reached)
 
   below : (w : ℕ) → T (bit w new) → w < 64
   below w t = bit-inside 64 w new small t
 
-  fresh : (w : ℕ) → T (bit w new) → T (bit w reached) → ⊥
-  fresh w t = T-not (bit w reached) (subst (λ x. T x) (bit-not 64 w reached (below w t) (b .fits)) (and-right (bit w (getD sets node 0)) _ (subst (λ x. T x) (split w) t)))
+  split : (w : ℕ) → w < 64 → T (bit w new) ↔ (T (bit w (getD sets node 0)) × (T (bit w reached) → ⊥))
+  split w l = subst (λ (x : ℕ). T (bit w x) ↔ (T (bit w (getD sets node 0)) × (T (bit w reached) → ⊥))) (sym is-new) (bit-and-not w (getD sets node 0) reached l (b .fits))
 
-  to-new : (w : ℕ) → w < 64 → T (bit w (getD sets node 0)) → (T (bit w reached) → ⊥) → T (bit w new)
-  to-new w l t n = subst (λ x. T x) (sym (split w)) (and-both (bit w (getD sets node 0)) _ t
-      (subst (λ x. T x) (sym (bit-not 64 w reached l (b .fits))) (not-T (bit w reached) n)))
+  from-node : (w : ℕ) → T (bit w new) → T (bit w (getD sets node 0))
+  from-node w t = split w (below w t) .0 t .0
+
+  fresh : (w : ℕ) → T (bit w new) → T (bit w reached) → ⊥
+  fresh w t = split w (below w t) .0 t .1
 
   keeps : (w : ℕ) → T (bit w reached) → T (bit w (bitOr reached new))
   keeps w t = subst (λ x. T x) (sym (bit-or w reached new)) (or-left (bit w reached) (bit w new) t)
@@ -149,7 +145,7 @@ module _ (sets : List ℕ) (s reached : ℕ) (counts queue : List ℕ) (tail hea
         (which w t)
 
     beside : (w : ℕ) → w < 64 → T (bit w (getD sets node 0)) → T (bit w (bitOr reached new))
-    beside w l t = ⊎-elim (λ o. keeps w o) (λ n. gains w (to-new w l t n)) (T? (bit w reached))
+    beside w l t = ⊎-elim (λ o. keeps w o) (λ n. gains w (split w l .1 (t, n))) (T? (bit w reached))
 
     pub turn : Bfs sets s (bitOr reached new) counts′ queue′ end (head + 1)
     turn = record {
@@ -216,29 +212,5 @@ module _ (sets : List ℕ) (s : ℕ) (below : s < 64) (es : List Edge) (g : Grap
         (c .0, omega (arith, e, c .1, o .1, ap (λ (x : ℕ). getD counts x 0) (p .2)))
 
     -- the set stands behind the counts
-    module _ (d : List ℕ) (l : Laid reached counts d) where
-      set-is : (w : ℕ) → w < 64 → reachedIn d w ≡ bit w reached
-      set-is w h =
-          let e : w / 8 * 8 + w % 8 ≡ w = omega arith in
-          ap (bit (w % 8)) (l .bytes (w / 8) (omega arith)) ∙ bit-byte (w / 8) (w % 8) reached (omega arith) ∙ ap (λ (k : ℕ). bit k reached) e
-
-      -- no place of the table is beyond the set's bytes
-      in-table : (w : ℕ) → T (reachedIn d w) → w < 64
-      in-table w t = elim (decLt w 64) [
-        | yes y ↦ y
-        | no n ↦ absurd (bit-empty (w % 8) (subst (λ (x : ℕ). T (bit (w % 8) x)) (List·getD-eq-default d 0 (omega (arith, l .long, b .numbered))) t))
-      ]
-
-      pub table : DistanceTable oneHop es g s d
-      table = record {
-        number = λ w k. (
-          (λ t.
-              let h = in-table w (t .0) in
-              let o = subst T (set-is w h) (t .0) in
-              subst (λ (x : ℕ). Distance oneHop es g s w x) (sym (l .same w h) ∙ t .1) (record { walk = walked (b .sound w o); fewest = λ j r. reach r .1 })),
-          (λ e.
-              let o = reach (e .walk) in
-              let h = bit-inside 64 w reached (b .fits) (o .0) in
-              (subst T (sym (set-is w h)) (o .0), omega (arith, l .same w h, o .1, e .fewest (getD counts w 0) (walked (b .sound w (o .0)))))),
-        );
-      }
+    pub table : (d : List ℕ) → Laid reached counts d → DistanceTable oneHop es g s d
+    table d l = laid-table l (b .numbered) (b .fits) (λ w t. walked (b .sound w t)) (λ w k r. reach r)

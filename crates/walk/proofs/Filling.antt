@@ -15,7 +15,7 @@ use Rattle.plan.specs.Meaning.{Edge, Graph, Literals, edge, literalOf, graphOf}
 use Rattle.plan.specs.declared.Side.{Side}
 use Rattle.plan.specs.declared.Side.the-variants.{Under, Over}
 use Rattle.plan.proofs.Bools.{or-cases, or-left, or-right}
-use Rattle.walk.specs.Hopping.{bit, Neighbours}
+use Rattle.walk.specs.Walking.{bit, Neighbours}
 use Rattle.walk.specs.Front.{LeadsBelow, UpTo}
 use Rattle.walk.proofs.Sets.{zeros, bit-empty, bit-or, bit-one}
 

@@ -2,13 +2,15 @@
 -- Assumes nothing.
 use mathlib.Core.Path.{_≡_}
 use mathlib.Core.List.{List, List·Memᴰ}
-use Prim.Native.Nat.{ℕ, _<_}
+use Prim.Native.Nat.{ℕ, _≤_, _<_}
 use native.Mathlib.Omega.{arith}
 use lib.IntN.{ℤ}
 use Rattle.plan.specs.Meaning.{Atom}
 use Rattle.plan.specs.Tables.{edgesOf, atomsOf, Lent}
+use Rattle.plan.specs.Ranged.{maxAtoms}
 use Rattle.plan.specs.declared.Plan.{Plan}
-use Rattle.walk.specs.Hopping.{Inside, Placed}
+use Rattle.plan.proofs.Tables.{atoms-length}
+use Rattle.walk.specs.Walking.{Inside, Placed}
 
 module _ {p : Plan} {es bs : List ℕ} {cs : List ℤ} (l : Lent p es bs cs) where
   pub lent-inside : Inside (edgesOf es)
@@ -27,3 +29,7 @@ module _ {p : Plan} {es bs : List ℕ} {cs : List ℤ} (l : Lent p es bs cs) whe
 
   pub atom-to : (A : Atom) → List·Memᴰ A (atomsOf bs) → A .to < 64
   atom-to A m = omega (arith, l .ranged .atom A m .to-in, l .ranged .nodes)
+
+  -- and there are at most 64 of them
+  pub lent-few : p .atoms ≤ maxAtoms
+  lent-few = omega (arith, atoms-length bs (p .atoms) (l .atoms), l .ranged .atoms)

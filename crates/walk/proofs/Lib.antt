@@ -1,7 +1,13 @@
 pub mod Sets
 pub mod Filling
 pub mod Visits
+pub mod Reach
 pub mod Breadth
+pub mod Chaining
+pub mod Choosing
+pub mod Relaxing
+pub mod Nearing
 pub mod Truths
 pub mod Lending
-pub mod Bytes
+pub mod Picking
+pub mod Asked

@@ -1,19 +1,22 @@
 -- Laws of a set of nodes as the binary digits of one number: the code's shifts and bit operations, and how many nodes a set has.
 -- Assumes nothing.
 use mathlib.Core.Path.{_≡_, refl, sym, ap, _∙_, subst}
-use mathlib.Core.Logic.{_≢_, _↔_}
+use mathlib.Core.Logic.{_≢_, _↔_, _⊎_, inl, inr, ⊎-elim}
 use mathlib.Core.Bool.{not, _&&_, _||_}
 use Prim.Native.Nat.{ℕ, zero, suc, _+_, _*_, _-_, _/_, _%_, _^_, _<_, _≤_, min, max}
 use native.Mathlib.Nat.{pow-suc, div-div-eq-div-mul, zero-min, min-zero}
+use native.Mathlib.Decide.{ℕ-discrete}
+use native.Mathlib.Numerals.{add-one}
 use native.Mathlib.Omega.{arith}
 use borrow.Author.Tests.{eq-eqb, ne-eqb}
-use lib.Bits.{bitAnd, bitOr, and-step, and-self, or-step}
+use lib.Bits.{bitAnd, bitOr, and-step, and-self, and-le-r, or-step}
 use lib.Count.{trailingZeros, under}
 use lib.ListN.{getD, replicate}
-use lib.Dec.{T, eqb, eqb→eq}
-use lib.Pow.{pow-lt}
-use Rattle.walk.specs.Hopping.{bit}
-use Rattle.walk.specs.Front.{sizeIn, byteAt}
+use lib.Dec.{T, eqb, eqb→eq, T-not, not-T}
+use lib.Pow.{pow-pos, pow-lt, shr-shr, field, mod-mod-pow}
+use Rattle.plan.proofs.Bools.{or-cases, or-left, or-right, and-both, and-left, and-right}
+use Rattle.walk.specs.Walking.{bit}
+use Rattle.walk.specs.Front.{sizeIn}
 
 twice : (i : ℕ) → 2 ^ suc i ≡ 2 * 2 ^ i
 twice i = pow-suc 2 i ∙ omega arith
@@ -115,6 +118,48 @@ bit-not (suc k) (suc i) x l f =
     let h : (2 ^ suc k - 1 - x) / 2 ≡ 2 ^ k - 1 - x / 2 = omega (arith, twice k) in
     ap (bit i) h ∙ bit-not k i (x / 2) (omega arith) (omega (arith, twice k))
 
+-- a set with one node more
+pub more-old : (i w x : ℕ) → T (bit w x) → T (bit w (bitOr x (2 ^ i)))
+more-old i w x t = subst (λ b. T b) (sym (bit-or w x (2 ^ i))) (or-left (bit w x) (bit w (2 ^ i)) t)
+
+pub more-new : (i x : ℕ) → T (bit i (bitOr x (2 ^ i)))
+more-new i x = subst (λ b. T b) (sym (bit-or i x (2 ^ i))) (or-right (bit i x) (bit i (2 ^ i)) (bit-one i i .1 refl))
+
+pub more-which : (i w x : ℕ) → T (bit w (bitOr x (2 ^ i))) → T (bit w x) ⊎ (w ≡ i)
+more-which i w x t = ⊎-elim (λ y. inl y) (λ y. inr (bit-one w i .0 y)) (or-cases (bit w x) (bit w (2 ^ i)) (subst (λ b. T b) (bit-or w x (2 ^ i)) t))
+
+-- a set without the nodes of another
+pub bit-and-not : (w x y : ℕ) → w < 64 → y < 2 ^ 64 → T (bit w (bitAnd x (2 ^ 64 - 1 - y))) ↔ (T (bit w x) × (T (bit w y) → ⊥))
+bit-and-not w x y l f =
+    let e = bit-and w x (2 ^ 64 - 1 - y) ∙ ap (λ b. bit w x && b) (bit-not 64 w y l f) in (
+      (λ t. let b = subst (λ b. T b) e t in (and-left (bit w x) _ b, T-not (bit w y) (and-right (bit w x) _ b))),
+      (λ t. subst (λ b. T b) (sym e) (and-both (bit w x) _ (t .0) (not-T (bit w y) (t .1)))),
+    )
+
+pub and-not-lt : (x y : ℕ) → bitAnd x (2 ^ 64 - 1 - y) < 2 ^ 64
+and-not-lt x y = omega (arith, and-le-r x (2 ^ 64 - 1 - y))
+
+pub bit-without : (w x y : ℕ) → x < 2 ^ 64 → y < 2 ^ 64 → T (bit w (bitAnd x (2 ^ 64 - 1 - y))) ↔ (T (bit w x) × (T (bit w y) → ⊥))
+bit-without w x y f h = (
+  (λ t. bit-and-not w x y (bit-inside 64 w (bitAnd x (2 ^ 64 - 1 - y)) (and-not-lt x y) t) h .0 t),
+  (λ t. bit-and-not w x y (bit-inside 64 w x f (t .0)) h .1 t),
+)
+
+-- sets of the same nodes
+pub bits-same : (k x y : ℕ) → x < 2 ^ k → y < 2 ^ k → ((i : ℕ) → bit i x ≡ bit i y) → x ≡ y
+unfolding bit
+bits-same zero x y f h e = omega arith
+bits-same (suc k) x y f h e = omega (arith, same-digit (x % 2) (y % 2) (digit-lt x) (digit-lt y) (e zero), bits-same k (x / 2) (y / 2) (omega (arith, twice k)) (omega (arith, twice k)) (λ i. e (suc i)))
+  where
+    same-digit : (a b : ℕ) → a < 2 → b < 2 → eqb a 1 ≡ eqb b 1 → a ≡ b
+    same-digit zero zero p q e = refl
+    same-digit zero (suc zero) p q e = absurd (subst T (sym e) tt)
+    same-digit (suc zero) zero p q e = absurd (subst T e tt)
+    same-digit (suc zero) (suc zero) p q e = refl
+    same-digit (suc (suc a)) b p q e = absurd (omega arith)
+    same-digit zero (suc (suc b)) p q e = absurd (omega arith)
+    same-digit (suc zero) (suc (suc b)) p q e = absurd (omega arith)
+
 -- ---- the lowest node of a set
 
 under-even : (d t : ℕ) → d ≡ 0 → under d t ≡ suc t
@@ -180,6 +225,35 @@ less-other zero (suc j) x t d = ap (bit j) (omega (arith, odd x t))
 less-other (suc i) zero x t d = ap (λ (y : ℕ). eqb y 1) (odd-less i x t)
 less-other (suc i) (suc j) x t d = ap (bit j) (half-less i x t) ∙ less-other i j (x / 2) t (λ e. d (ap suc e))
 
+-- one node taken out of a set, so that `rest` is left
+pub record Taken (x i rest : ℕ) : Type 0 where
+  pub is : T (bit i x)
+  pub inside : i < 64
+  pub fewer : rest < x
+  pub gone : T (bit i rest) → ⊥
+  pub kept : (w : ℕ) → T (bit w rest) → T (bit w x)
+  pub other : (w : ℕ) → T (bit w x) → (w ≡ i) ⊎ T (bit w rest)
+
+-- the lowest one, as the code takes it
+pub taken : (x : ℕ) → x < 2 ^ 64 → x ≢ 0 → Taken x (trailingZeros 64 x) (bitAnd x (x - 1))
+taken x f n = rw (less-lowest 64 x f n) (record {
+  is = low;
+  inside = bit-inside 64 i x f low;
+  fewer = omega (arith, pow-pos i, bit-le i x low);
+  gone = less-same i x low;
+  kept = λ w t. elim (ℕ-discrete w i) [
+    | yes e ↦ subst (λ (y : ℕ). T (bit y x)) (sym e) low
+    | no d ↦ subst (λ b. T b) (less-other i w x low d) t
+  ];
+  other = λ w t. elim (ℕ-discrete w i) [ yes e ↦ inl e | no d ↦ inr (subst (λ b. T b) (sym (less-other i w x low d)) t) ];
+})
+  where
+    i : ℕ
+    i = trailingZeros 64 x
+
+    low : T (bit (trailingZeros 64 x) x)
+    low = lowest 64 x f n
+
 -- ---- how many nodes a set has
 
 pub size-le : (k x : ℕ) → sizeIn k x ≤ k
@@ -224,30 +298,13 @@ zeros zero i = refl
 zeros (suc n) zero = refl
 zeros (suc n) (suc i) = zeros n i
 
--- ---- a set by its bytes
+-- ---- the lower nodes of a set, and the upper ones
 
-same-odd : (a b : ℕ) → a % 2 ≡ b % 2 → eqb (a % 2) 1 ≡ eqb (b % 2) 1
-same-odd a b e = ap (λ (y : ℕ). eqb y 1) e
-
-low-bits : (r x : ℕ) → r < 8 → bit r (x % 256) ≡ bit r x
+pub bit-low : (k i x : ℕ) → i < k → bit i (x % 2 ^ k) ≡ bit i x
 unfolding bit
-low-bits zero x l = same-odd (x % 256) (x) (omega arith)
-low-bits (suc zero) x l = same-odd (x % 256 / 2) (x / 2) (omega arith)
-low-bits (suc (suc zero)) x l = same-odd (x % 256 / 2 / 2) (x / 2 / 2) (omega arith)
-low-bits (suc (suc (suc zero))) x l = same-odd (x % 256 / 2 / 2 / 2) (x / 2 / 2 / 2) (omega arith)
-low-bits (suc (suc (suc (suc zero)))) x l = same-odd (x % 256 / 2 / 2 / 2 / 2) (x / 2 / 2 / 2 / 2) (omega arith)
-low-bits (suc (suc (suc (suc (suc zero))))) x l = same-odd (x % 256 / 2 / 2 / 2 / 2 / 2) (x / 2 / 2 / 2 / 2 / 2) (omega arith)
-low-bits (suc (suc (suc (suc (suc (suc zero)))))) x l = same-odd (x % 256 / 2 / 2 / 2 / 2 / 2 / 2) (x / 2 / 2 / 2 / 2 / 2 / 2) (omega arith)
-low-bits (suc (suc (suc (suc (suc (suc (suc zero))))))) x l = same-odd (x % 256 / 2 / 2 / 2 / 2 / 2 / 2 / 2) (x / 2 / 2 / 2 / 2 / 2 / 2 / 2) (omega arith)
-low-bits (suc (suc (suc (suc (suc (suc (suc (suc r)))))))) x l = absurd (omega arith)
+bit-low zero i x l = absurd (omega arith)
+bit-low (suc k) zero x l = ap (λ (y : ℕ). eqb y 1) (rw add-one at (mod-mod-pow x k 1))
+bit-low (suc k) (suc i) x l = ap (bit i) (rw add-one at (field x k 1)) ∙ bit-low k i (x / 2) (omega arith)
 
-eight-on : (k x : ℕ) → bit (suc (suc (suc (suc (suc (suc (suc (suc k)))))))) x ≡ bit k (x / 256)
-unfolding bit
-eight-on k x = let e : x / 2 / 2 / 2 / 2 / 2 / 2 / 2 / 2 ≡ x / 256 = omega arith in ap (bit k) e
-
-pub bit-byte : (q r x : ℕ) → r < 8 → bit r (byteAt q x) ≡ bit (q * 8 + r) x
-unfolding byteAt
-bit-byte zero r x l = let e : r ≡ 0 * 8 + r = omega arith in low-bits r x l ∙ ap (λ (k : ℕ). bit k x) e
-bit-byte (suc q) r x l =
-    let e : suc (suc (suc (suc (suc (suc (suc (suc (q * 8 + r)))))))) ≡ suc q * 8 + r = omega arith in
-    bit-byte q r (x / 256) l ∙ sym (eight-on (q * 8 + r) x) ∙ ap (λ (k : ℕ). bit k x) e
+pub bit-high : (k i x : ℕ) → bit (k + i) x ≡ bit i (x / 2 ^ k)
+bit-high k i x = bit-shift (k + i) x ∙ ap (λ (y : ℕ). eqb (y % 2) 1) (sym (shr-shr x k i)) ∙ sym (bit-shift i (x / 2 ^ k))

@@ -7,7 +7,7 @@ use mathlib.Core.List.{List}
 use Prim.Native.Nat.{ℕ}
 use lib.Dec.{T}
 use Rattle.plan.specs.Meaning.{Edge, Atom, Graph, Cost, Distance, costOf, Allows, IsTrue}
-use Rattle.walk.specs.Hopping.{reachedIn, distanceIn, DistanceTable}
+use Rattle.walk.specs.Walking.{reachedIn, distanceIn, DistanceTable}
 
 -- the code's answer, and what it stands for
 pub so : {r b : Bool} → r ≡ b → r ≡ true → T b

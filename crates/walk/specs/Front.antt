@@ -7,7 +7,7 @@ use Prim.Native.Nat.{ℕ, zero, suc, _+_, _%_, _/_, _<_, _≤_}
 use lib.ListN.{length, getD}
 use lib.Dec.{T}
 use Rattle.plan.specs.Meaning.{Edge, Graph, Leads}
-use Rattle.walk.specs.Hopping.{bit}
+use Rattle.walk.specs.Walking.{bit}
 
 -- An edge of the graph numbered below n leads from u to w.
 abbrev pub LeadsBelow : ℕ → List Edge → Graph → ℕ → ℕ → Type 0
@@ -37,13 +37,9 @@ pub record Visited (x c tail : ℕ) (counts queue : List ℕ) (end : ℕ) (count
   pub numbered : length counts′ ≡ length counts
   pub places : length queue′ ≡ length queue
 
--- The bytes of a set, the lowest nodes first.
-unfoldable pub byteAt : ℕ → ℕ → ℕ
-byteAt zero x = x % 256
-byteAt (suc i) x = byteAt i (x / 256)
-
--- The set x stands behind the first 64 places, which are as they were.
+-- The set x stands behind the first 64 places, which are as they were: the lower 32 nodes, then the upper ones.
 pub record Laid (x : ℕ) (d d′ : List ℕ) : Type 0 where
   pub long : length d′ ≡ length d
   pub same : (w : ℕ) → w < 64 → getD d′ w 0 ≡ getD d w 0
-  pub bytes : (i : ℕ) → i < 8 → getD d′ (64 + i) 0 ≡ byteAt i x
+  pub lower : getD d′ 64 0 ≡ x % 4294967296
+  pub upper : getD d′ 65 0 ≡ x / 4294967296

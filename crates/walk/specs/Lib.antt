@@ -1,2 +1,3 @@
-pub mod Hopping
+pub mod Walking
 pub mod Front
+pub mod Nearest

@@ -1,7 +1,15 @@
-// The hop walk: neighbour sets of a graph, distances from one node, and what they say of an atom. How the distances are laid out stays in here.
+// The walks: distances from one node in a graph, by hops and by length, and what they say of an atom. How the distances are laid out stays in here.
+mod lengths;
+
+pub use lengths::Chains;
+pub use lengths::chains;
+pub use lengths::length_atoms;
+pub use lengths::length_walk;
+pub use lengths::true_by_length;
 use plan::Atom;
 use plan::Edge;
 use plan::Kind;
+use plan::Measure;
 use plan::Side;
 use plan::State;
 ghost use mathlib.Core.Path.{_≡_};
@@ -9,14 +17,15 @@ ghost use Prim.Native.Nat.{suc, _+_, _*_, _<_, _≤_};
 ghost use lib.ListN.{length};
 ghost use mathlib.Core.Logic.{_↔_};
 ghost use lib.Dec.{T};
-ghost use Rattle.plan.specs.Meaning.{graphOf, trueIn, Allows};
+ghost use Rattle.plan.specs.Meaning.{costBy, graphOf, trueIn, Allows};
+ghost use Rattle.plan.specs.Ranged.{maxEdges};
 ghost use Rattle.plan.specs.Tables.{edgesOf, edgeOf, atomOf};
-ghost use Rattle.walk.specs.Hopping.{bit, Inside, Placed, Neighbours, reachedIn, distanceIn, Walked, Truth, SettledBy};
+ghost use Rattle.walk.specs.Walking.{bit, Inside, Placed, Neighbours, reachedIn, distanceIn, DistanceTable, Walked, Truth, SettledBy};
 ghost use Rattle.walk.specs.Front.{UpTo, size, Visited, Laid};
 
-// The distances from one node: that of node w at place w, and behind them the set of the nodes that are reached, eight to a byte.
+// The distances from one node: that of node w at place w, and behind them the set of the nodes that are reached, 32 to a number.
 // What stands at a node that is not reached says nothing.
-pub type Distances = [u8; 72];
+pub type Distances = [u32; 66];
 
 const REACHED: usize = 64;
 
@@ -46,7 +55,7 @@ pub fn is_present(values: &[i8], edge: Edge, side: Side) -> bool
 fn add_edge(edges: &[u16], values: &[i8], side: Side, k: usize, sets: &mut [u64; 64])
     requires { ⌜ Inside (edgesOf (now edges)) ⌝ }
     requires { ⌜ Placed (edgesOf (now edges)) (length (now values)) ⌝ }
-    requires { ⌜ k * 3 + 2 < length (now edges) ⌝ }
+    requires { ⌜ k * 4 + 3 < length (now edges) ⌝ }
     requires { ⌜ UpTo (edgesOf (now edges)) (graphOf side (trueIn (now values))) k (now sets) ⌝ }
     ensures { λ _. ⌜ UpTo (edgesOf (now (edges .entry))) (graphOf side (trueIn (now (values .entry)))) (suc k) (now (sets .exit)) ⌝ }
 {
@@ -76,8 +85,8 @@ pub fn neighbours(edges: &[u16], values: &[i8], side: Side) -> [u64; 64]
 }
 
 // Gives each node of the set `new` its count and a place in the queue, whose first `tail` places are used. Returns the queue's new end.
-fn visit(new: u64, count: u8, tail: usize, counts: &mut Distances, queue: &mut [u8; 64]) -> usize
-    requires { ⌜ length (now counts) ≡ 72 ⌝ }
+fn visit(new: u64, count: u32, tail: usize, counts: &mut Distances, queue: &mut [u8; 64]) -> usize
+    requires { ⌜ length (now counts) ≡ 66 ⌝ }
     requires { ⌜ length (now queue) ≡ 64 ⌝ }
     requires { ⌜ tail + size new ≤ 64 ⌝ }
     ensures { λ r. ⌜ Visited new count tail (now (counts .entry)) (now (queue .entry)) r (now (counts .exit)) (now (queue .exit)) ⌝ }
@@ -96,16 +105,11 @@ fn visit(new: u64, count: u8, tail: usize, counts: &mut Distances, queue: &mut [
 
 // Puts the set of the nodes that are reached behind the distances.
 fn put_reached(reached: u64, distances: &mut Distances)
-    requires { ⌜ length (now distances) ≡ 72 ⌝ }
+    requires { ⌜ length (now distances) ≡ 66 ⌝ }
     ensures { λ _. ⌜ Laid reached (now (distances .entry)) (now (distances .exit)) ⌝ }
 {
-    let mut rest = reached;
-    let mut i = 0;
-    while i < 8 {
-        distances[REACHED + i] = (rest % 256) as u8;
-        rest = rest / 256;
-        i += 1;
-    }
+    distances[REACHED] = (reached % 4294967296) as u32;
+    distances[REACHED + 1] = (reached / 4294967296) as u32;
 }
 
 // The hops from `source` to every node, breadth first.
@@ -114,7 +118,7 @@ pub fn walk(neighbours: &[u64; 64], source: usize) -> Distances
     ensures { λ r. ⌜ Walked (now (neighbours .entry)) source r ⌝ }
 {
     let mut reached = 1u64 << source;
-    let mut counts: Distances = [0; 72];
+    let mut counts: Distances = [0; 66];
     let mut queue: [u8; 64] = [0; 64];
     queue[0] = source as u8;
     let mut tail = 1;
@@ -131,7 +135,33 @@ pub fn walk(neighbours: &[u64; 64], source: usize) -> Distances
     counts
 }
 
-fn from_byte(x: u8) -> u64
+// The distances from `source` in the under graph or in the over graph, by hops or by length.
+pub fn distances_by(
+    measure: Measure,
+    edges: &[u16],
+    values: &[i8],
+    side: Side,
+    source: usize,
+) -> Distances
+    requires { ⌜ Inside (edgesOf (now edges)) ⌝ }
+    requires { ⌜ Placed (edgesOf (now edges)) (length (now values)) ⌝ }
+    requires { ⌜ length (edgesOf (now edges)) ≤ maxEdges ⌝ }
+    requires { ⌜ source < 64 ⌝ }
+    ensures { λ r. ⌜ DistanceTable (costBy measure) (edgesOf (now (edges .entry))) (graphOf side (trueIn (now (values .entry)))) source r ⌝ }
+{
+    match measure {
+        Measure::Hops => {
+            let sets = neighbours(edges, values, side);
+            walk(&sets, source)
+        }
+        Measure::Lengths => {
+            let chains = chains(edges, values, side);
+            length_walk(edges, &chains, source)
+        }
+    }
+}
+
+fn from_word(x: u32) -> u64
     ensures { λ r. ⌜ r ≡ x ⌝ }
 {
     x as u64
@@ -148,8 +178,8 @@ pub fn is_reached(distances: &Distances, node: usize) -> bool
     requires { ⌜ node < 64 ⌝ }
     ensures { λ r. ⌜ r ≡ reachedIn (now (distances .entry)) node ⌝ }
 {
-    let at = REACHED + node / 8;
-    has(from_byte(distances[at]), node % 8)
+    let at = REACHED + node / 32;
+    has(from_word(distances[at]), node % 32)
 }
 
 // The distance of a node that is reached.
@@ -157,7 +187,7 @@ pub fn distance(distances: &Distances, node: usize) -> u64
     requires { ⌜ node < 64 ⌝ }
     ensures { λ r. ⌜ r ≡ distanceIn (now (distances .entry)) node ⌝ }
 {
-    from_byte(distances[node])
+    from_word(distances[node])
 }
 
 // Whether a kind allows a distance, with this bound.
@@ -167,6 +197,7 @@ fn allows(kind: Kind, bound: u16, distance: u64) -> bool
     match kind {
         Kind::Reaches => true,
         Kind::Within => distance <= widened(bound),
+        Kind::LengthAtMost => distance <= widened(bound),
     }
 }
 

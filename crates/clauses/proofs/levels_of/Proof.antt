@@ -7,4 +7,4 @@ use borrow.Author.Needs.{needs}
 
 pub levels-of-spec : {M : Type 1} → statement M
 unfolding levels
-levels-of-spec = tie.close (tie.spec (λ c. omega arith) (λ c. search needs) (λ c. search needs) (λ c κs. omega arith) (λ c κs. omega arith) (λ c. rw (c .enum-told .given .1)) (λ c. rw (c .before .before .enum-told2 .given .1, c .lesser .ensures, c .before .wide .ensures)))
+levels-of-spec = tie.close (tie.spec (λ c. omega arith) (λ c. search needs) (λ c. search needs) (λ c κs. search needs) (λ c κs. search needs) (λ c. search needs) (λ c. rw (c .enum-told .given .1)) (λ c. rw (c .before .before .enum-told2 .given .1, c .lesser .ensures, c .before .wide .ensures)) (λ c. rw (c .enum-told3 .given .1)))

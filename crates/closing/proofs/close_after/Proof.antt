@@ -18,15 +18,15 @@ use Rattle.closing.proofs.close_after.Statement.{statement}
 use Rattle.closing.proofs.close_after.Tie as tie
 
 abbrev Inv-loop : tie.InvT-loop
-Inv-loop plan edges atoms clauses places tried values₀ values = let φ = planOf plan edges atoms clauses in Onward φ values₀ values × ClausesQuiet φ values
+Inv-loop plan edges atoms clauses places tried values₀ lengths values = let φ = planOf plan edges atoms clauses in Onward φ values₀ values × ClausesQuiet φ values
 
 abbrev μ-loop : tie.MeasureT-loop
-μ-loop plan edges atoms clauses places tried values₀ values = opens values
+μ-loop plan edges atoms clauses places tried values₀ lengths values = opens values
 
 propagate-requires : tie.Need-propagate-requires Inv-loop μ-loop
 propagate-requires c κs =
     let b = c .before .before .before in
-    (lent-ready (b .pre .0) (b .pre .1 .1 .0), (b .pre .1 .0, rw (toZ-ofZ (b .fits .tried)) (b .pre .1 .1 .1)))
+    (lent-ready (b .pre .0) (b .pre .1 .1 .0), (b .pre .1 .0, rw (toZ-ofZ (b .fits .tried)) (b .pre .1 .1 .1 .0)))
 
 -- after what the clauses give at first
 module _ (c : tie.After-propagate Inv-loop μ-loop) where
@@ -61,7 +61,7 @@ round-requires : tie.Need-round-requires Inv-loop μ-loop
 round-requires c κs =
     let b = begin (c .before .before .before .before) in
     let i = c .before .loop .inv in
-    (b .pre .0, (b .pre .1 .0, (i .0 .shape, i .1)))
+    (b .pre .0, (b .pre .1 .0, (i .0 .shape, (i .1, b .pre .1 .1 .1 .1))))
 
 -- after a round
 module _ (c : tie.After-round Inv-loop μ-loop) where

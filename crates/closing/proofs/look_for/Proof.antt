@@ -1,4 +1,4 @@
--- `closing::look_for`: the atoms before the place are heard without a clash, and the distances are those from the source in the graph that settles the verdict.
+-- `closing::look_for`: the atoms before the place that count hops are heard without a clash, and the distances are those from the source in the graph that settles the verdict.
 use mathlib.Core.Path.{_≡_, refl, sym, ap, _∙_, subst}
 use mathlib.Core.Logic.{⊎-elim}
 use mathlib.Core.Bool.{true}
@@ -8,27 +8,29 @@ use native.Mathlib.Omega.{arith}
 use borrow.Author.Needs.{needs}
 use lib.IntN.{ℤ}
 use lib.Dec.{T}
-use Rattle.plan.specs.Meaning.{Atom, atom, literalOf, trueIn}
+use Rattle.plan.specs.Meaning.{Atom, atom, measureOf, literalOf, trueIn}
 use Rattle.plan.specs.Places.{First}
 use Rattle.plan.specs.Tables.{atomOf, atomsOf}
+use Rattle.plan.specs.declared.Measure.the-variants.{Hops}
 use Rattle.plan.proofs.Places.{without-none, without-more}
-use Rattle.walk.specs.Hopping.{Walked}
-use Rattle.walk.proofs.Truths.{so}
+use Rattle.walk.specs.Walking.{Walked}
+use Rattle.walk.proofs.Truths.{so, not-so}
+use Rattle.walk.proofs.Asked.{by-hops}
 use Rattle.unit.specs.Onward.{Onward}
 use Rattle.closing.specs.Closed.{isClash, andThen}
-use Rattle.closing.specs.Atoms.{AtomReady, Ready, Unsaid, Told}
+use Rattle.closing.specs.Atoms.{AtomReady, Ready, Outside, Due, Told}
 use Rattle.closing.specs.declared.Step.{Step}
 use Rattle.closing.specs.declared.Step.the-variants.{Clash, Set, Still}
-use Rattle.closing.proofs.Looking.{ready-on, ready-atoms, ready-inside, ready-placed, then-clash, then-set, then-still, looks-clash, Sweeps, sweep-start, sweep-past, sweep-one, sweep-end, settles-by}
+use Rattle.closing.proofs.Looking.{same-literal, ready-on, ready-atoms, ready-inside, ready-placed, then-clash, then-set, then-still, looks-clash, Sweeps, sweep-start, sweep-past, sweep-one, sweep-end, settles-by}
 use Rattle.closing.proofs.look_for.Statement.{statement}
 use Rattle.closing.proofs.look_for.Tie as tie
 
 abbrev Inv-loop : tie.InvT-loop
-Inv-loop edges atoms count holds values₀ at₀ sets source₀ distances₀ step₀ values at source distances step =
-    (at ≤ count) × Walked sets source distances × (T (isClash step) → ⊥) × Sweeps edges atoms holds values₀ values at step
+Inv-loop edges atoms count lengths holds values₀ at₀ sets source₀ distances₀ step₀ values at source distances step =
+    (at ≤ count) × Walked sets source distances × (T (isClash step) → ⊥) × Sweeps (Outside lengths) edges atoms holds values₀ values at step
 
 abbrev μ-loop : tie.MeasureT-loop
-μ-loop edges atoms count holds values₀ at₀ sets source₀ distances₀ step₀ values at source distances step = count - at
+μ-loop edges atoms count lengths holds values₀ at₀ sets source₀ distances₀ step₀ values at source distances step = count - at
 
 -- the first atom with something to say
 module _ (c : tie.After-next-to-say Inv-loop μ-loop) where
@@ -38,20 +40,23 @@ module _ (c : tie.After-next-to-say Inv-loop μ-loop) where
   abbrev given : List ℤ
   given = begin .args .values .now
 
-  first : First (Unsaid (begin .args .atoms .now) (begin .args .holds) given) 0 (begin .args .count) (c .next-to-say .result)
+  abbrev hops : ℕ → Type 0
+  hops = Outside (begin .args .lengths)
+
+  first : First (Due (begin .args .lengths) (begin .args .atoms .now) (begin .args .holds) given) 0 (begin .args .count) (c .next-to-say .result)
   first = c .next-to-say .ensures
 
-  start : Sweeps (begin .args .edges .now) (begin .args .atoms .now) (begin .args .holds) given given (c .next-to-say .result) Still
-  start = sweep-past (begin .args .holds) given given 0 (c .next-to-say .result) Still (first .before) (sweep-start (begin .args .holds) given)
+  start : Sweeps hops (begin .args .edges .now) (begin .args .atoms .now) (begin .args .holds) given given (c .next-to-say .result) Still
+  start = sweep-past hops (begin .args .holds) given given 0 (c .next-to-say .result) Still (first .before) (sweep-start hops (begin .args .holds) given)
 
 returns : tie.Need-returns Inv-loop μ-loop
 returns c =
     let d = c .before in
     let b = begin d in
-    sweep-end (b .args .holds) (given d) (given d) (b .args .count) (d .next-to-say .result) Still (b .pre .long) (omega (arith, c .if1 .taken)) (start d)
+    sweep-end (hops d) (b .args .holds) (given d) (given d) (b .args .count) (d .next-to-say .result) Still (b .pre .0 .long) (omega (arith, c .if1 .taken)) (start d)
 
 neighbours-requires : tie.Need-neighbours-requires Inv-loop μ-loop
-neighbours-requires c κs = let b = begin (c .before .before .before) in (ready-inside (b .pre), ready-placed (b .pre))
+neighbours-requires c κs = let b = begin (c .before .before .before) in (ready-inside (b .pre .0), ready-placed (b .pre .0))
 
 -- the neighbour sets are there, and so is an atom
 module _ (c : tie.After-neighbours Inv-loop μ-loop) where
@@ -65,10 +70,10 @@ module _ (c : tie.After-neighbours Inv-loop μ-loop) where
   inside = omega (arith, first found .inside, c .before .before .before .if1 .left)
 
   first-from : atom (atomsOf (begin found .args .atoms .now)) number .from < 64
-  first-from = ready-atoms (begin found .pre) .each number inside .fits .from-in
+  first-from = ready-atoms (begin found .pre .0) .each number inside .fits .from-in
 
 atom-at-requires : tie.Need-atom-at-requires Inv-loop μ-loop
-atom-at-requires c κs = omega (arith, begin (found c) .pre .long, inside c)
+atom-at-requires c κs = omega (arith, begin (found c) .pre .0 .long, inside c)
 
 walk-requires : tie.Need-walk-requires Inv-loop μ-loop
 walk-requires c κs =
@@ -91,11 +96,11 @@ module _ (c : tie.At-loop Inv-loop μ-loop) where
   abbrev table : List ℕ
   table = begun .args .atoms .now
 
-  so-far : Onward (begun .pre .file) (given (found sets)) (c .loop .values)
-  so-far = c .loop .inv .3 (begun .pre .file) (begun .pre .has) .onward
+  so-far : Onward (begun .pre .0 .file) (given (found sets)) (c .loop .values)
+  so-far = c .loop .inv .3 (begun .pre .0 .file) (begun .pre .0 .has) .onward
 
   ready : Ready (begun .args .edges .now) table (begun .args .count) (c .loop .values)
-  ready = ready-on (begun .pre) so-far
+  ready = ready-on (begun .pre .0) (so-far .shape)
 
 -- its atom
 module _ (c : tie.After-atom-at2 Inv-loop μ-loop) where
@@ -120,26 +125,40 @@ module _ (c : tie.After-atom-at2 Inv-loop μ-loop) where
   less : begun turn .args .count - (turn .loop .at + 1) < begun turn .args .count - turn .loop .at
   less = omega (arith, its-place)
 
--- it is passed by where its literal is there
-module _ (c : tie.After-is-set-to Inv-loop μ-loop) where
-  abbrev asked : tie.After-atom-at2 Inv-loop μ-loop
-  asked = c .before .before .before .before
+  -- it is passed by where it is not due
+  past : (Due (begun turn .args .lengths) (table turn) (begun turn .args .holds) (turn .loop .values) (turn .loop .at) → ⊥)
+      → Sweeps (hops (found (sets turn))) (begun turn .args .edges .now) (table turn) (begun turn .args .holds) (given (found (sets turn))) (turn .loop .values) (turn .loop .at + 1) (turn .loop .step)
+  past n =
+      let b = begun turn .args in
+      sweep-past (hops (found (sets turn))) (b .holds) (given (found (sets turn))) (turn .loop .values) (turn .loop .at) (turn .loop .at + 1) (turn .loop .step)
+      (without-more (Due (b .lengths) (table turn) (b .holds) (turn .loop .values)) (without-none _ _) n) (turn .loop .inv .3)
 
-  there : c .is-set-to .result ≡ true → T (trueIn (turn asked .loop .values) (literalOf (begun (turn asked) .args .holds) (this asked .variable)))
-  there = so (c .is-set-to .ensures ∙ ap (λ (A : Atom). trueIn (turn asked .loop .values) (literalOf (begun (turn asked) .args .holds) (A .variable))) (asked .atom-at2 .ensures))
+  on : turn .loop .at + 1 ≤ begun turn .args .count
+  on = omega (arith, its-place)
 
+has-requires : tie.Need-has-requires Inv-loop μ-loop
+has-requires c κs = omega (arith, begun (turn c) .pre .1 .few, its-place c)
+
+-- it counts lengths
 loop-again : tie.Need-loop-again Inv-loop μ-loop
 loop-again c =
+    let a = c .before .before in
+    let i = turn a .loop .inv in
+    (on a, i .1, i .2, past a (λ d. d .0 (so (c .before .has .ensures) (c .if2 .taken))))
+
+-- its literal is there
+module _ (c : tie.After-is-set-to Inv-loop μ-loop) where
+  abbrev asked : tie.After-atom-at2 Inv-loop μ-loop
+  asked = c .before .before .before .before .before .before
+
+  there : c .is-set-to .result ≡ true → T (trueIn (turn asked .loop .values) (literalOf (begun (turn asked) .args .holds) (this asked .variable)))
+  there = so (c .is-set-to .ensures ∙ same-literal (turn asked .loop .values) (begun (turn asked) .args .holds) _ _ (asked .atom-at2 .ensures))
+
+loop-again-2 : tie.Need-loop-again-2 Inv-loop μ-loop
+loop-again-2 c =
     let a = asked (c .before) in
-    let t = turn a in
-    let i = t .loop .inv in
-    let b = begun t in (
-      omega (arith, its-place a),
-      i .1,
-      i .2,
-      sweep-past (b .args .holds) (given (found (sets t))) (t .loop .values) (t .loop .at) (t .loop .at + 1) (t .loop .step)
-          (without-more (Unsaid (table t) (b .args .holds) (t .loop .values)) (without-none _ _) (λ n. n (there (c .before) (c .if3 .taken)))) (i .3),
-    )
+    let i = turn a .loop .inv in
+    (on a, i .1, i .2, past a (λ d. d .1 (there (c .before) (c .if4 .taken))))
 
 walk-requires-2 : tie.Need-walk-requires-2 Inv-loop μ-loop
 walk-requires-2 c κs =
@@ -150,22 +169,25 @@ walk-requires-2 c κs =
 walked-as : (sets : List ℕ) (s t : ℕ) (d e : List ℕ) → s ≡ t → d ≡ e → Walked sets t e → Walked sets s d
 walked-as sets s t d e p q w = rw (p, q) w
 
-module _ (c : tie.Joined2 Inv-loop μ-loop) where
+module _ (c : tie.Joined3 Inv-loop μ-loop) where
   abbrev seen : tie.After-atom-at2 Inv-loop μ-loop
-  seen = c .before .before
+  seen = c .before .before .before .before
 
-  walked : Walked (sets (turn seen) .neighbours .result) (c .if2 .source) (c .if2 .distances)
+  in-hops : measureOf (this seen .kind) ≡ Hops
+  in-hops = by-hops (turn seen .loop .at) (begun (turn seen) .pre .1) (its-place seen) (not-so (c .before .before .before .has .ensures) (c .before .before .if2 .left))
+
+  walked : Walked (sets (turn seen) .neighbours .result) (c .if3 .source) (c .if3 .distances)
   walked =
       let n = sets (turn seen) .neighbours .result in
       ⊎-elim (λ w. walked-as n _ _ _ _ (w .7 ∙ sym (w .5 .ensures)) (w .8) (w .6 .ensures))
-      (λ w. walked-as n _ _ _ _ (w .1) (w .2) (turn seen .loop .inv .1)) (c .if2 .came)
+      (λ w. walked-as n _ _ _ _ (w .1) (w .2) (turn seen .loop .inv .1)) (c .if3 .came)
 
-  source-is : c .if2 .source ≡ this seen .from
-  source-is = ⊎-elim (λ w. w .7 ∙ from-is seen) (λ w. w .1 ∙ sym (w .0 .left) ∙ from-is seen) (c .if2 .came)
+  source-is : c .if3 .source ≡ this seen .from
+  source-is = ⊎-elim (λ w. w .7 ∙ from-is seen) (λ w. w .1 ∙ sym (w .0 .left) ∙ from-is seen) (c .if3 .came)
 
 -- the look at it
 module _ (c : tie.After-look-at Inv-loop μ-loop) where
-  abbrev joined : tie.Joined2 Inv-loop μ-loop
+  abbrev joined : tie.Joined3 Inv-loop μ-loop
   joined = c .before .before .before
 
   abbrev its : tie.At-loop Inv-loop μ-loop
@@ -175,61 +197,59 @@ module _ (c : tie.After-look-at Inv-loop μ-loop) where
   after = c .look-at .last .1 .1 .1 .0
 
   swept : (z : Step) → andThen (its .loop .step) (c .look-at .result) ≡ z
-      → Sweeps (begun its .args .edges .now) (table its) (begun its .args .holds) (given (found (sets its))) after (its .loop .at + 1) z
+      → Sweeps (hops (found (sets its))) (begun its .args .edges .now) (table its) (begun its .args .holds) (given (found (sets its))) after (its .loop .at + 1) z
   swept z e =
       let n = sets its in
       let b = begun its in
-      let d = joined .if2 .distances in
+      let d = joined .if3 .distances in
       let r = c .look-at .result in
-      subst (λ z. Sweeps (b .args .edges .now) (table its) (b .args .holds) (given (found n)) after (its .loop .at + 1) z) e
-      (sweep-one (b .args .holds) (given (found n)) (its .loop .values) after (b .args .count) (its .loop .at) d (its .loop .step) r (b .pre .long) (its-place (seen joined))
-      (settles-by (b .args .holds) (given (found n)) (n .before .settling-side .result) (n .neighbours .result) (this (seen joined)) (joined .if2 .source) d
-      (n .before .settling-side .ensures) (ready-inside (b .pre)) (n .neighbours .ensures) (walked joined) (source-is joined))
+      subst (λ z. Sweeps (hops (found n)) (b .args .edges .now) (table its) (b .args .holds) (given (found n)) after (its .loop .at + 1) z) e
+      (sweep-one (hops (found n)) (b .args .holds) (given (found n)) (its .loop .values) after (b .args .count) (its .loop .at) d (its .loop .step) r (b .pre .0 .long) (its-place (seen joined))
+      (settles-by (b .args .holds) (given (found n)) (n .before .settling-side .result) (n .neighbours .result) (this (seen joined)) (joined .if3 .source) d
+      (n .before .settling-side .ensures) (in-hops joined) (ready-inside (b .pre .0)) (n .neighbours .ensures) (walked joined) (source-is joined))
       (subst (λ A. Told (b .args .holds) A d (its .loop .values) after r) (seen joined .atom-at2 .ensures) (c .look-at .ensures)) (its .loop .inv .3))
 
-  kept : Onward (begun its .pre .file) (given (found (sets its))) after
-  kept = swept _ refl (begun its .pre .file) (begun its .pre .has) .onward
-
-  on : its .loop .at + 1 ≤ begun its .args .count
-  on = omega (arith, its-place (seen joined))
+  kept : Onward (begun its .pre .0 .file) (given (found (sets its))) after
+  kept = swept _ refl (begun its .pre .0 .file) (begun its .pre .0 .has) .onward
 
 returns-2 : tie.Need-returns-2 Inv-loop μ-loop
 returns-2 c = λ φ f.
     let d = c .before .before .before in
     looks-clash φ (given (found (sets (its d)))) (after d) Clash tt (swept d Clash (then-clash (its d .loop .step) _ (c .enum-told .given .1)) φ f)
 
-loop-again-2 : tie.Need-loop-again-2 Inv-loop μ-loop
-loop-again-2 c =
-    let d = c .before .before .before in
-    (on d, walked (joined d), (λ t. t), swept d Set (then-set (its d .loop .step) _ (its d .loop .inv .2) (c .enum-told2 .given .1)))
-
 loop-again-3 : tie.Need-loop-again-3 Inv-loop μ-loop
 loop-again-3 c =
     let d = c .before .before .before in
-    (on d, walked (joined d), its d .loop .inv .2, swept d (its d .loop .step) (then-still (its d .loop .step) _ (c .enum-told3 .given .1)))
+    (on (seen (joined d)), walked (joined d), (λ t. t), swept d Set (then-set (its d .loop .step) _ (its d .loop .inv .2) (c .enum-told2 .given .1)))
+
+loop-again-4 : tie.Need-loop-again-4 Inv-loop μ-loop
+loop-again-4 c =
+    let d = c .before .before .before in
+    (on (seen (joined d)), walked (joined d), its d .loop .inv .2, swept d (its d .loop .step) (then-still (its d .loop .step) _ (c .enum-told3 .given .1)))
 
 returns-3 : tie.Need-returns-3 Inv-loop μ-loop
 returns-3 c =
     let t = c .before in
     let b = begun t in
-    sweep-end (b .args .holds) (given (found (sets t))) (t .loop .values) (b .args .count) (t .loop .at) (t .loop .step) (b .pre .long) (c .loop-test .left) (t .loop .inv .3)
+    sweep-end (hops (found (sets t))) (b .args .holds) (given (found (sets t))) (t .loop .values) (b .args .count) (t .loop .at) (t .loop .step) (b .pre .0 .long) (c .loop-test .left) (t .loop .inv .3)
 
 same-length-2 : tie.Need-same-length-2 Inv-loop μ-loop
-same-length-2 c = let d = c .before .before .before in kept d .shape .long ∙ sym (begun (its d) .pre .has .shape .long)
+same-length-2 c = let d = c .before .before .before in kept d .shape .long ∙ sym (begun (its d) .pre .0 .has .shape .long)
 
 same-length-3 : tie.Need-same-length-3 Inv-loop μ-loop
-same-length-3 c = so-far (c .before) .shape .long ∙ sym (begun (c .before) .pre .has .shape .long)
+same-length-3 c = so-far (c .before) .shape .long ∙ sym (begun (c .before) .pre .0 .has .shape .long)
 
 add-at : tie.Need-add-at Inv-loop μ-loop
-add-at c = let h = its-place c in let f = begun (turn c) .fits .count in search needs
+add-at c = let h = its-place (c .before) in let f = begun (turn (c .before)) .fits .count in search needs
 
 pub look-for-spec : {M : Type 1} → statement M
 look-for-spec =
     tie.close
     (tie.spec
-    Inv-loop μ-loop (λ c κs. (ready-atoms (c .before .before .before .pre), omega arith)) (λ c. search needs) returns (λ c κs. tt) neighbours-requires atom-at-requires (λ c κs. tt) walk-requires loop-holds
-    (λ c κs. omega (arith, begun (c .before) .pre .long, c .loop-test .taken)) add-at (λ c κs. let f = atom-ready (c .before .before .before) .fits in (f .low, f .high)) (λ c. less (asked (c .before))) loop-again (λ c κs. tt) walk-requires-2
+    Inv-loop μ-loop (λ c κs. let p = c .before .before .before .pre in (ready-atoms (p .0), (p .1 .few, omega arith))) (λ c. search needs) returns (λ c κs. tt) neighbours-requires atom-at-requires (λ c κs. tt) walk-requires loop-holds
+    (λ c κs. omega (arith, begun (c .before) .pre .0 .long, c .loop-test .taken)) has-requires add-at (λ c. less (c .before .before)) loop-again
+    (λ c κs. let f = atom-ready (c .before .before .before .before .before) .fits in (f .low, f .high)) (λ c. less (asked (c .before))) loop-again-2 (λ c κs. tt) walk-requires-2
     (λ c κs. atom-ready (seen (c .before .before)))
     (λ c. search needs) same-length-2 returns-2
-    (λ c. search needs) (λ c. less (seen (joined (c .before .before .before)))) loop-again-2
-    (λ c. search needs) (λ c. less (seen (joined (c .before .before .before)))) loop-again-3 same-length-3 returns-3)
+    (λ c. search needs) (λ c. less (seen (joined (c .before .before .before)))) loop-again-3
+    (λ c. search needs) (λ c. less (seen (joined (c .before .before .before)))) loop-again-4 same-length-3 returns-3)

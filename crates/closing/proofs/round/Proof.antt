@@ -58,7 +58,7 @@ returns c = let x = looks (c .before .before .before) Clash (c .enum-told .given
 returns-2 : tie.Need-returns-2
 returns-2 c =
     let d = c .before .before .before in
-    round-still (whole (begin d)) (begin d .pre .0 .ranged) (given (begin d)) (between d) (begin d .pre .1 .1 .1) (looks d Still (c .enum-told2 .given .1))
+    round-still (whole (begin d)) (begin d .pre .0 .ranged) (given (begin d)) (between d) (begin d .pre .1 .1 .1 .0) (looks d Still (c .enum-told2 .given .1))
 
 -- it set something
 module _ (c : tie.After-enum-told3) where
@@ -76,7 +76,7 @@ module _ (c : tie.After-enum-told3) where
       shape = subst (λ n. Assigned n (given (begin look))) (sym (set .onward .shape .long)) (shape (begin look));
       above = set .onward .above;
     };
-    quiet = begin look .pre .1 .1 .1;
+    quiet = begin look .pre .1 .1 .1 .0;
   }
 
 propagate-changes-requires : tie.Need-propagate-changes-requires
@@ -145,6 +145,6 @@ pub round-spec : {M : Type 1} → statement M
 round-spec =
     tie.close
     (tie.spec (λ c κs. let b = c .before .before .before in lent-ready (b .pre .0) (shape b) .small)
-    (λ c κs. let b = c .before .before .before .before .before in record { file = whole b; has = lent-tables (b .pre .0) (shape b); long = b .pre .0 .atoms })
+    (λ c κs. let b = c .before .before .before .before .before in (record { file = whole b; has = lent-tables (b .pre .0) (shape b); long = b .pre .0 .atoms }, b .pre .1 .1 .1 .1))
     (λ c. search needs) (λ c. search needs) returns (λ c. search needs) (λ c. search needs) returns-2 (λ c. search needs) propagate-changes-requires (λ c. search needs) returns-3
     same-edges-requires (λ c. search needs) returns-4 (λ c. search needs) returns-5)

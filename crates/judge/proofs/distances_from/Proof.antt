@@ -3,7 +3,7 @@ use mathlib.Core.Path.{subst, sym}
 use Prim.Native.Nat.{ℕ}
 use borrow.Author.Needs.{needs}
 use Rattle.plan.specs.Meaning.{oneHop}
-use Rattle.walk.specs.Hopping.{DistanceTable}
+use Rattle.walk.specs.Walking.{DistanceTable}
 use Rattle.judge.proofs.distances_from.Statement.{statement}
 use Rattle.judge.proofs.distances_from.Tie as tie
 

@@ -8,17 +8,15 @@ use Rattle.judge.proofs.is_right.Tie as tie
 
 returns : tie.Need-returns
 returns c =
-    let t = c .before .before in
-    let b = t .before in
-    λ es x. right-on (trueIn (b .args .assignment .now) (on (b .args .atom .variable))) (t .is-true .result)
-    (so (c .before .is-set-to .ensures) (c .if1 .taken)) (t .is-true .ensures es _ x)
+    let b = c .before .before in
+    λ es x. right-on (trueIn (b .args .assignment .now) (on (b .args .atom .variable))) (b .args .truth)
+    (so (c .before .is-set-to .ensures) (c .if1 .taken)) x
 
 returns-2 : tie.Need-returns-2
 returns-2 c =
-    let t = c .before .before in
-    let b = t .before in
-    λ es x. right-off (trueIn (b .args .assignment .now) (on (b .args .atom .variable))) (t .is-true .result)
-    (not-so (c .before .is-set-to .ensures) (c .if1 .left)) (t .is-true .ensures es _ x)
+    let b = c .before .before in
+    λ es x. right-off (trueIn (b .args .assignment .now) (on (b .args .atom .variable))) (b .args .truth)
+    (not-so (c .before .is-set-to .ensures) (c .if1 .left)) x
 
 pub is-right-spec : {M : Type 1} → statement M
-is-right-spec = tie.close (tie.spec (λ c κs. search needs) (λ c κs. search needs) returns returns-2)
+is-right-spec = tie.close (tie.spec (λ c κs. search needs) returns returns-2)

@@ -4,7 +4,7 @@ use Prim.Native.Nat.{ℕ}
 use Rattle.plan.specs.Meaning.{Atom, HasTrue}
 use Rattle.plan.specs.Judging.{Judged, wrong}
 use Rattle.plan.specs.Tables.{edgesOf, atomsOf, clausesOf, planOf}
-use Rattle.walk.proofs.Lending.{lent-inside, lent-placed}
+use Rattle.walk.proofs.Lending.{lent-inside, lent-placed, lent-few}
 use Rattle.judge.specs.Judgements.{FirstIs, RightIn}
 use Rattle.judge.specs.declared.First.{First}
 use Rattle.judge.specs.declared.First.the-variants.{At, Nowhere}
@@ -38,7 +38,7 @@ enum-told c = search needs
 first-wrong-requires : tie.Need-first-wrong-requires
 first-wrong-requires c κs =
     let b = begin (c .before .before) in
-    (lent-inside (b .pre .0), (lent-placed (b .pre .0) _ (b .pre .1 .long), (lent-atoms (b .pre .0) _ (b .pre .1 .long), b .pre .0 .atoms)))
+    (lent-inside (b .pre .0), (lent-placed (b .pre .0) _ (b .pre .1 .long), (lent-atoms (b .pre .0) _ (b .pre .1 .long), (b .pre .0 .ranged .edges, (lent-few (b .pre .0), b .pre .0 .atoms)))))
 
 -- the first wrong atom
 module _ (c : tie.After-first-wrong) where

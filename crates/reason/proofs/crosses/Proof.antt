@@ -7,7 +7,7 @@ use lib.Dec.{T}
 use Rattle.plan.specs.Meaning.{Edge, off, trueIn}
 use Rattle.plan.specs.Reason.{LeavesAt}
 use Rattle.plan.specs.Tables.{edgeOf}
-use Rattle.walk.specs.Hopping.{reachedIn, distanceIn}
+use Rattle.walk.specs.Walking.{reachedIn, distanceIn}
 use Rattle.walk.proofs.Truths.{so, not-so}
 use Rattle.reason.proofs.Paths.{never, also}
 use Rattle.reason.proofs.Cuts.{off-of, not-off, across-unreached, across-late, across-none, across-far}
@@ -79,16 +79,17 @@ returns-4 c = λ es x.
 
 returns-5 : tie.Need-returns-5
 returns-5 c = λ es x.
-    let d = c .before .before .before in
+    let priced = c .before .before in
+    let d = priced .before .before in
     let l = left d in
     let A = t l .args .atom in
     let far = c .before .distance2 .ensures ∙ ap (distanceIn (t l .args .distances .now)) (d .before .wide2 .ensures) in
-    let beyond = rw (near-is l, far) at (c .ends-beyond .ensures) in
-    let across = across-far (A .kind) (A .bound) x (e (start l)) (from-reached l) (soon d) (so (to-is d) (not-false _ (c .before .before .if4 .left))) in
+    let beyond = rw (near-is l, priced .cost-for .ensures, far) at (c .ends-beyond .ensures) in
+    let across = across-far (A .kind) (A .bound) x (e (start l)) (from-reached l) (soon d) (so (to-is d) (not-false _ (priced .before .if4 .left))) in
     also (is-off (start l)) ((λ y. across .0 (beyond .0 y)), (λ q. beyond .1 (across .1 q)))
 
 pub crosses-spec : {M : Type 1} → statement M
 crosses-spec =
     tie.close
     (tie.spec (λ c κs. search needs) returns (λ c κs. search needs) (λ c κs. search needs) returns-2 (λ c κs. search needs) (λ c κs. search needs)
-    returns-3 (λ c κs. search needs) (λ c κs. search needs) returns-4 (λ c κs. search needs) (λ c κs. search needs) returns-5)
+    returns-3 (λ c κs. search needs) (λ c κs. search needs) returns-4 (λ c κs. search needs) (λ c κs. search needs) (λ c κs. search needs) returns-5)

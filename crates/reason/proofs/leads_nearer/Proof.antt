@@ -7,7 +7,7 @@ use native.Mathlib.Omega.{arith}
 use lib.Dec.{eqb→eq, eqb-refl}
 use Rattle.plan.specs.Meaning.{graphOf, trueIn}
 use Rattle.plan.specs.Tables.{edgeOf, atomOf}
-use Rattle.walk.specs.Hopping.{reachedIn, distanceIn}
+use Rattle.walk.specs.Walking.{reachedIn, distanceIn}
 use Rattle.walk.proofs.Truths.{so, not-so, reached-distance, distance-reached, distance-is}
 use Rattle.reason.specs.Marks.{holding}
 use Rattle.reason.proofs.Paths.{never}
@@ -45,24 +45,36 @@ module _ (c : tie.After-is-reached) where
 returns-3 : tie.Need-returns-3
 returns-3 c = λ es x. never (λ q. not-so (from-is (c .before)) (not-true _ (c .if3 .taken)) (distance-reached x _ _ (q .near)))
 
+-- it is, and how far away
+module _ (c : tie.After-distance) where
+  abbrev there : tie.After-is-reached
+  there = c .before .before
+
+  near-is : c .distance .result ≡ distanceIn (first there .args .distances .now) (first there .args .edge .from)
+  near-is = c .distance .ensures ∙ ap (distanceIn (first there .args .distances .now)) (there .before .wide2 .ensures)
+
 returns-4 : tie.Need-returns-4
-returns-4 c = λ es x.
+returns-4 c = λ es x. never (λ q. omega (arith, c .if4 .taken, near-is (c .before), distance-is x _ _ (q .near), q .sum))
+
+returns-5 : tie.Need-returns-5
+returns-5 c = λ es x.
     let d = c .before .before in
-    let t = first d .args in
-    let near = distanceIn (t .distances .now) (t .edge .from) in
-    let is : c .distance .result ≡ near = c .distance .ensures ∙ ap (distanceIn (t .distances .now)) (d .before .wide2 .ensures) in (
+    let r = there d in
+    let t = first r .args in (
       (λ e. record {
-        present = so (present-is (tried d)) (not-false _ (d .before .before .if2 .left));
-        ends = sym (ends (tried d) .before .wide .ensures) ∙ ends (tried d) .if1 .left;
-        before = near;
-        near = reached-distance x _ (so (from-is d) (not-false _ (c .before .if3 .left)));
-        sum = omega (arith, eqb→eq (c .distance .result) (t .count - 1) e, first d .pre .1);
+        present = so (present-is (tried r)) (not-false _ (r .before .before .if2 .left));
+        ends = sym (ends (tried r) .before .wide .ensures) ∙ ends (tried r) .if1 .left;
+        before = distanceIn (t .distances .now) (t .edge .from);
+        near = reached-distance x _ (so (from-is r) (not-false _ (d .before .if3 .left)));
+        sum = omega (arith, eqb→eq (t .count - d .distance .result) (c .cost-for .result) e, c .before .if4 .left, c .cost-for .ensures, near-is d);
       }),
-      (λ q. let e : c .distance .result ≡ t .count - 1 = omega (arith, distance-is x _ _ (q .near), q .sum) in rw e (eqb-refl (t .count - 1))),
+      (λ q.
+          let e : t .count - d .distance .result ≡ c .cost-for .result = omega (arith, c .cost-for .ensures, near-is d, distance-is x _ _ (q .near), q .sum) in
+          rw e (eqb-refl (c .cost-for .result))),
     )
 
 pub leads-nearer-spec : {M : Type 1} → statement M
 leads-nearer-spec =
     tie.close
     (tie.spec (λ c κs. search needs) returns (λ c κs. search needs) (λ c κs. search needs) returns-2 (λ c κs. search needs) (λ c κs. search needs)
-    returns-3 (λ c κs. search needs) (λ c. search needs) returns-4)
+    returns-3 (λ c κs. search needs) returns-4 (λ c κs. search needs) returns-5)

@@ -33,7 +33,7 @@ module _ (c : tie.After-edge-at) where
   listed = within-listed (begin .args .edges .now) (begin .args .k) (begin .pre .1 .0)
 
   fits : EdgeFits (begin .args .assignment .now) e
-  fits = edge-fits (begin .pre .0 .fits) (rw (c .edge-at .ensures) (mem-at es _ (begin .args .k) listed))
+  fits = edge-fits {e = e} (begin .pre .0 .fits) (rw (c .edge-at .ensures) (mem-at es _ (begin .args .k) listed))
 
   its : (φ : PlanFile) (v : ℕ) → CutAt (begin .args .k) (withEdges es φ) (begin .args .assignment .now) (atomOf (begin .args .atom)) v
       ↔ ((v ≡ e .variable) × Crossing es (begin .args .assignment .now) (atomOf (begin .args .atom)) e)

@@ -38,10 +38,7 @@ module _ (c : tie.After-edge-at Inv-loop μ-loop) where
   listed = within-listed (begin .args .edges .now) (at .loop .number) (omega arith)
 
   fits : EdgeFits (begin .args .assignment .now) (edgeOf (c .edge-at .result))
-  fits = edge-fits (begin .pre .0 .fits) (rw (c .edge-at .ensures) (mem-at es _ (at .loop .number) listed))
-
-leads-nearer-requires : tie.Need-leads-nearer-requires Inv-loop μ-loop
-leads-nearer-requires c κs = (fits c, begin c .pre .1 .1)
+  fits = edge-fits {e = edgeOf (c .edge-at .result)} (begin .pre .0 .fits) (rw (c .edge-at .ensures) (mem-at es _ (at .loop .number) listed))
 
 returns : tie.Need-returns Inv-loop μ-loop
 returns c =
@@ -71,5 +68,5 @@ returns-2 c =
 pub nearer-edge-spec : {M : Type 1} → statement M
 nearer-edge-spec =
     tie.close
-    (tie.spec Inv-loop μ-loop (λ c. (omega arith, λ i l. omega arith)) (λ c κs. omega arith) leads-nearer-requires returns
+    (tie.spec Inv-loop μ-loop (λ c. (omega arith, λ i l. omega arith)) (λ c κs. omega arith) (λ c κs. fits c) returns
     (λ c. omega arith) (λ c. omega arith) loop-again returns-2)

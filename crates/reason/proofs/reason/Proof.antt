@@ -44,6 +44,8 @@ module _ (c : tie.After-atom-at) where
   fits = record {
     inside = lent-inside (begin .pre .lent);
     placed = lent-placed (begin .pre .lent) _ (begin .pre .assigned .long);
+    long = λ e m. begin .pre .lent .ranged .long e m .low;
+    edges = begin .pre .lent .ranged .edges;
     few = omega (arith, begin .pre .assigned .long, begin .pre .lent .ranged .variables);
   }
 
@@ -54,11 +56,11 @@ module _ (c : tie.After-atom-at) where
       → AnswerIs (withEdges es φ) a (atom (atomsOf (begin .args .atoms .now)) (begin .args .number)) x (begin .args .out .now) new
   answers φ x new h = subst (λ B. AnswerIs (withEdges es φ) a B x (begin .args .out .now) new) (c .atom-at .ensures) h
 
-distances-by-requires : tie.Need-distances-by-requires
-distances-by-requires c κs = (fits c, atom-from (begin c .pre .lent) _ (its c))
+distances-for-requires : tie.Need-distances-for-requires
+distances-for-requires c κs = (fits c, atom-from (begin c .pre .lent) _ (its c))
 
-distances-by-requires-2 : tie.Need-distances-by-requires-2
-distances-by-requires-2 c κs = let d = c .before in (fits d, atom-from (begin d .pre .lent) _ (its d))
+distances-for-requires-2 : tie.Need-distances-for-requires-2
+distances-for-requires-2 c κs = let d = c .before in (fits d, atom-from (begin d .pre .lent) _ (its d))
 
 settled-requires : tie.Need-settled-requires
 settled-requires c κs = let d = c .before .before .before .before in atom-to (begin d .pre .lent) _ (its d)
@@ -71,19 +73,19 @@ module _ (c : tie.After-settled) where
   said : (s : State) → c .settled .result ≡ s → Over (es read) (λ φ. Settled φ (trueIn (a read)) (A read) s)
   said s e φ =
       subst (Settled (withEdges (es read) φ) (trueIn (a read)) (A read)) e
-      (c .settled .ensures (withEdges (es read) φ) (a read) (c .before .before .before .before .distances-by .ensures) (c .before .before .before .distances-by2 .ensures))
+      (c .settled .ensures (withEdges (es read) φ) (a read) (c .before .before .before .before .distances-for .ensures) (c .before .before .before .distances-for2 .ensures))
 
 reason-holds-requires : tie.Need-reason-holds-requires
 reason-holds-requires c κs =
     let d = c .before .before .before .before in
     let r = read d in
-    (record { fits = fits r; table = d .before .before .before .before .distances-by .ensures }, (atom-to (begin r .pre .lent) _ (its r), (variable-in r, said d state.Holds (c .before .before .enum-told .given .1))))
+    (record { fits = fits r; table = d .before .before .before .before .distances-for .ensures }, (atom-to (begin r .pre .lent) _ (its r), (variable-in r, said d state.Holds (c .before .before .enum-told .given .1))))
 
 reason-fails-requires : tie.Need-reason-fails-requires
 reason-fails-requires c κs =
     let d = c .before .before .before .before in
     let r = read d in
-    (record { fits = fits r; table = d .before .before .before .distances-by2 .ensures }, (variable-in r, said d state.Fails (c .before .before .enum-told2 .given .1)))
+    (record { fits = fits r; table = d .before .before .before .distances-for2 .ensures }, (variable-in r, said d state.Fails (c .before .before .enum-told2 .given .1)))
 
 returns : tie.Need-returns
 returns c = λ φ. answers (read (c .before .before .before .before .before .before)) φ (c .before .reason-holds .result) _ (c .before .reason-holds .ensures φ)
@@ -99,5 +101,5 @@ returns-3 c = λ φ.
 pub reason-spec : {M : Type 1} → statement M
 reason-spec =
     tie.close
-    (tie.spec (λ c κs. search needs) distances-by-requires distances-by-requires-2 settled-requires (λ c. search needs) reason-holds-requires (λ c. search needs)
+    (tie.spec (λ c κs. search needs) distances-for-requires distances-for-requires-2 settled-requires (λ c. search needs) reason-holds-requires (λ c. search needs)
     reason-fails-requires (λ c. search needs) (λ c. search needs) returns (λ c. search needs) returns-2 returns-3)

@@ -3,7 +3,7 @@ use mathlib.Core.Path.{refl, sym, ap, subst, _∙_}
 use borrow.Author.Needs.{needs}
 use lib.ListN.{length}
 use Rattle.plan.specs.Tables.{edgesOf, atomOf}
-use Rattle.walk.specs.Hopping.{distanceIn}
+use Rattle.walk.specs.Walking.{distanceIn}
 use Rattle.walk.proofs.Truths.{reached-distance, distance-reached}
 use Rattle.reason.specs.Answers.{withEdges}
 use Rattle.reason.specs.Marks.{Away}

@@ -15,7 +15,8 @@ use borrow.Author.Needs.{needs}
 use Rattle.plan.specs.Meaning.{PlanFile, on, off, add}
 use Rattle.plan.specs.Search.{Assigned, opens, Closes, Lowest, triedFirst, triedThen}
 use Rattle.plan.specs.Ranged.{maxVariables, LiteralFits}
-use Rattle.plan.specs.Tables.{planOf, Lent}
+use Rattle.plan.specs.Tables.{atomsOf, planOf, Lent}
+use Rattle.walk.specs.Walking.{CountLengths}
 use Rattle.plan.proofs.Search.{low-n, tried-shape, tried-opens, first-of, then-of}
 use Rattle.index.specs.Places.{Indexed}
 use Rattle.unit.specs.Queue.{Known}
@@ -80,7 +81,7 @@ module _ (t : ℕ) where
     shape = c .pre .1 .0 .shape
 
     low : Lowest set place
-    low = c .pre .1 .1 .1 .1
+    low = c .pre .1 .1 .1 .1 .0
 
     inside : suc place ≤ n
     inside = low-n n set place shape low
@@ -103,12 +104,12 @@ module _ (t : ℕ) where
 
         -- what `settle` is called with
         starts : (count : ℕ) → count ≤ c .args .budget
-            → (twice-open n r + 1 < t) × (Beginning count × (Indexed (c .args .clauses .now) (c .args .places .now) × (Known (c .args .clauses .now) (take n r) y × ((place + 1 ≤ n) × Filled (take n r) (place + 1)))))
+            → (twice-open n r + 1 < t) × (Beginning count × (Indexed (c .args .clauses .now) (c .args .places .now) × (Known (c .args .clauses .now) (take n r) y × ((place + 1 ≤ n) × (Filled (take n r) (place + 1) × CountLengths (atomsOf (c .args .atoms .now)) (c .args .plan .atoms) (c .args .lengths))))))
         starts count left =
             let known = known-tried n (c .args .clauses .now) set place shape low (c .pre .1 .1 .1 .0) x of in
             let begins : Beginning count = record { lent = lent; shape = rw with-it (tried-shape n set place shape low x of); left = left } in
             let fewer : twice-open n r + 1 < t = omega (arith, ap opens with-it, tried-opens n set place shape low x of, c .pre .0) in
-            (fewer, (begins, (c .pre .1 .1 .0, (rw (with-it, is) known, (omega (arith, inside), rw with-it (filled-tried set place low x of))))))
+            (fewer, (begins, (c .pre .1 .1 .0, (rw (with-it, is) known, (omega (arith, inside), (rw with-it (filled-tried set place low x of), c .pre .1 .1 .1 .1 .1))))))
 
   -- the two literals, as the code makes them
   module _ (c : branch-lts.After-literal-of2 branch-calls branch-at branch.Post) where
@@ -242,7 +243,7 @@ module _ (t : ℕ) where
     closes e = closed-set file given after (c .closed .result .clash) e (c .closed .ensures)
 
   settle-closed-requires : settle-lts.Need-closed-requires settle-calls settle-at settle.Post
-  settle-closed-requires c κs = let d = c .before .before in (d .pre .1 .0 .lent, (d .pre .1 .1 .0, (d .pre .1 .0 .shape, rw (toZ-ofZ (d .fits .tried)) (d .pre .1 .1 .1 .0))))
+  settle-closed-requires c κs = let d = c .before .before in (d .pre .1 .0 .lent, (d .pre .1 .1 .0, (d .pre .1 .0 .shape, (rw (toZ-ofZ (d .fits .tried)) (d .pre .1 .1 .1 .0), d .pre .1 .1 .1 .1 .1 .1))))
 
   settle-returns : settle-lts.Need-returns settle-calls settle-at settle.Post
   settle-returns c =
@@ -265,7 +266,7 @@ module _ (t : ℕ) where
     is-set = closes shut (c .before .if1 .left)
 
     filled : Filled (after shut) (entry shut .args .from)
-    filled = filled-closed (file shut) (given shut) (after shut) (entry shut .args .from) (entry shut .pre .1 .0 .shape) (entry shut .pre .1 .1 .1 .1 .0) is-set (entry shut .pre .1 .1 .1 .1 .1)
+    filled = filled-closed (file shut) (given shut) (after shut) (entry shut .args .from) (entry shut .pre .1 .0 .shape) (entry shut .pre .1 .1 .1 .1 .0) is-set (entry shut .pre .1 .1 .1 .1 .1 .0)
 
   settle-returns-2 : settle-lts.Need-returns-2 settle-calls settle-at settle.Post
   settle-returns-2 c =
@@ -284,7 +285,7 @@ module _ (t : ℕ) where
       let f = fewer-closed (file k) (given k) (after k) (d .pre .1 .0 .shape) (is-set o) in
       let h : o .open-place .result < length (after k) = omega (arith, o .open-place .ensures .inside, is-set o .shape .long, c .if2 .left, c .before .wide .ensures) in (
         omega arith,
-        (record { lent = d .pre .1 .0 .lent; shape = is-set o .shape; left = d .pre .1 .0 .left }, (d .pre .1 .1 .0, (closed-quiet (file k) (given k) (after k) (is-set o), first-lowest (after k) (d .args .from) (o .open-place .result) (filled o) (o .open-place .ensures) h))),
+        (record { lent = d .pre .1 .0 .lent; shape = is-set o .shape; left = d .pre .1 .0 .left }, (d .pre .1 .1 .0, (closed-quiet (file k) (given k) (after k) (is-set o), (first-lowest (after k) (d .args .from) (o .open-place .result) (filled o) (o .open-place .ensures) h, d .pre .1 .1 .1 .1 .1 .1)))),
       )
 
   settle-returns-3 : settle-lts.Need-returns-3 settle-calls settle-at settle.Post

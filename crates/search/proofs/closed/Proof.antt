@@ -36,8 +36,8 @@ close-after-requires c κs =
     let b = begin (c .before) in
     let e = sym (c .before .wide .ensures) in
     let s = subst (λ n. Assigned (b .args .plan .variables) (take n (b .args .a .values))) e (b .pre .1 .1 .0) in
-    let k = subst (λ n. Known (b .args .clauses .now) (take n (b .args .a .values)) (b .args .tried)) e (b .pre .1 .1 .1) in
-    (b .pre .0, (b .pre .1 .0, (s, rw (toZ-ofZ (b .fits .tried)) k)))
+    let k = subst (λ n. Known (b .args .clauses .now) (take n (b .args .a .values)) (b .args .tried)) e (b .pre .1 .1 .1 .0) in
+    (b .pre .0, (b .pre .1 .0, (s, (rw (toZ-ofZ (b .fits .tried)) k, b .pre .1 .1 .1 .1))))
 
 returns : tie.Need-returns
 returns c =

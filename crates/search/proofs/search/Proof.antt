@@ -18,11 +18,15 @@ use Rattle.search.proofs.Firsts.{all-open-is, all-open-shape}
 use Rattle.search.specs.Report.{verdictOf}
 use Rattle.search.specs.declared.Verdict.{Verdict}
 use Rattle.search.proofs.Parts.{report-whole}
+use Rattle.walk.proofs.Lending.{lent-few}
 use Rattle.search.proofs.search.Statement.{statement}
 use Rattle.search.proofs.search.Tie as tie
 
 index-of-requires : tie.Need-index-of-requires
 index-of-requires c κs = let b = c .before .before in lent-indexable (b .args .plan) (b .args .edges .now) (b .args .atoms .now) (b .args .clauses .now) (b .pre .0)
+
+length-atoms-requires : tie.Need-length-atoms-requires
+length-atoms-requires c κs = let l = c .before .before .before .before .pre .0 in (lent-few l, l .atoms)
 
 all-open-requires : tie.Need-all-open-requires
 all-open-requires c κs = search needs
@@ -30,7 +34,7 @@ all-open-requires c κs = search needs
 -- from all open
 module _ (c : tie.After-all-open) where
   abbrev begin : tie.Start
-  begin = c .before .before .before .before .before
+  begin = c .before .before .before .before .before .before
 
   abbrev n : ℕ
   n = begin .args .plan .variables
@@ -45,7 +49,7 @@ settle-requires : tie.Need-settle-requires
 settle-requires c κs =
     let d = c .before in (
       record { lent = begin d .pre .0; shape = subst (λ l. Assigned (n d) l) (sym (starts d)) (all-open-shape (n d)); left = omega arith },
-      (d .before .before .index-of .ensures, (known-nothing _ _, (omega arith, without-none _ 0))),
+      (d .before .before .before .index-of .ensures, (known-nothing _ _, (omega arith, (without-none _ 0, d .before .length-atoms .ensures)))),
     )
 
 -- after the search
@@ -114,5 +118,5 @@ returns-3 c = record { searched = searched (c .before .before) _ (c .enum-told3 
 
 pub search-spec : {M : Type 1} → statement M
 search-spec =
-    tie.close (tie.spec index-of-requires all-open-requires settle-requires enum-told wide-requires array-share-prefix-values slice-aggregate-copy copy-requires
+    tie.close (tie.spec index-of-requires length-atoms-requires all-open-requires settle-requires enum-told wide-requires array-share-prefix-values slice-aggregate-copy copy-requires
     enum-told-2 enum-told-3 same-length returns returns-2 returns-3)

@@ -6,7 +6,7 @@ use Rattle.plan.specs.Closing.{Settles}
 use mathlib.Core.List.{List}
 use lib.IntN.{ℤ}
 use Rattle.plan.specs.Meaning.{Atom, PlanFile, trueIn}
-use Rattle.walk.specs.Hopping.{Settling}
+use Rattle.walk.specs.Walking.{Settling}
 use Rattle.plan.specs.Tables.{atomOf}
 use Rattle.walk.proofs.Truths.{so, not-so}
 use Rattle.walk.proofs.settled.Statement.{statement}

@@ -40,6 +40,9 @@ mul-new c = omega (arith, node-in (c .before .loop .inv .1) (c .loop-test .taken
 element-copy-out-new : tie.Need-element-copy-out-new Inv-loop μ-loop
 element-copy-out-new c = node-in (c .before .loop .inv .1) (c .loop-test .taken)
 
+mul-count : tie.Need-mul-count Inv-loop μ-loop
+mul-count c = omega (arith, node-in (c .before .before .loop .inv .1) (c .before .loop-test .taken))
+
 array-read-count : tie.Need-array-read-count Inv-loop μ-loop
 array-read-count c = omega (arith, node-in (c .before .before .loop .inv .1) (c .before .loop-test .taken))
 
@@ -86,6 +89,7 @@ walk-spec =
     cast-node
     mul-new
     element-copy-out-new
+    mul-count
     array-read-count
     add-count
     visit-requires

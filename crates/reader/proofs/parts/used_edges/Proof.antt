@@ -10,7 +10,7 @@ use Rattle.reader.proofs.parts.used_edges.Tie as tie
 slice-aggregate-result : tie.Need-slice-aggregate-result
 slice-aggregate-result c =
     let s = c .before .before .before in
-    let e : length (s .args .table .now) ≡ 768 = search needs in
+    let e : length (s .args .table .now) ≡ 1024 = search needs in
     sym (length-take-le _ _ (omega (arith, s .pre .edges)))
 
 pub used-edges-spec : {M : Type 1} → statement M

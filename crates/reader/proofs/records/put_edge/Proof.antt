@@ -7,7 +7,7 @@ use Rattle.reader.proofs.records.put_edge.Tie as tie
 returns : tie.Need-returns
 returns c =
     let e = c .args .edge in
-    put-row (c .args .table .now) (c .args .n * 3) 3 ((c .args .n + 1) * 3) (e .from) (e .to ∷ e .variable ∷ []) refl (omega arith) (c .pre)
+    put-row (c .args .table .now) (c .args .n * 4) 4 ((c .args .n + 1) * 4) (e .from) (e .to ∷ e .length ∷ e .variable ∷ []) refl (omega arith) (c .pre)
 
 pub put-edge-spec : {M : Type 1} → statement M
 put-edge-spec =
@@ -16,6 +16,9 @@ put-edge-spec =
     (λ c. search needs)
     (λ c. search needs)
     (λ c. search needs)
+    (λ c. search needs)
+    (λ c. search needs)
+    (λ c. simp length-set (omega arith))
     (λ c. search needs)
     (λ c. search needs)
     (λ c. simp length-set (omega arith))

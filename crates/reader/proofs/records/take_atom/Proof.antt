@@ -24,7 +24,7 @@ module _ (c : tie.After-atom-ok) where
   counts = entry .args .counts
 
   abbrev others : List ℕ
-  others = take (counts .edges * 3) (entry .args .edges .now)
+  others = take (counts .edges * 4) (entry .args .edges .now)
 
   long : eqb (lenAt file at) 9 ≡ true
   long = eq-eqb _ 9 (sym (c .before .before .before .before .word .ensures) ∙ c .before .before .before .if1 .left)
@@ -45,8 +45,8 @@ module _ (c : tie.After-uses) where
   room : ltb (counts tested .atoms) 64 ≡ true
   room = lt-ltb _ 64 (c .before .before .before .if3 .left)
 
-  used : lastIs 2 2 (others tested) (word (file tested) (at tested + 10)) ≡ c .uses .result
-  used = sym (c .uses .ensures ∙ ap (λ (x : Atom). lastIs 2 2 (others tested) (x .variable)) (tested .before .before .atom-in .ensures))
+  used : lastIs 3 3 (others tested) (word (file tested) (at tested + 10)) ≡ c .uses .result
+  used = sym (c .uses .ensures ∙ ap (λ (x : Atom). lastIs 3 3 (others tested) (x .variable)) (tested .before .before .atom-in .ensures))
 
 returns-5 : tie.Need-returns-5
 returns-5 c = λ cs p t.

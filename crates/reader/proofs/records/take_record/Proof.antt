@@ -26,12 +26,12 @@ module _ (c : tie.After-shared-slice-known2) where
   ready : Ready file at (entry .args .counts)
   ready = record { within = within; room = entry .pre .1 }
 
-returns-7 : tie.Need-returns-7
+returns-8 : tie.Need-returns-8
 unfolding stepAt
-returns-7 c = λ p t.
+returns-8 c = λ p t.
     let r = c .match .rest in
-    let q = r .0 .0 .0 in
-    rw (fitting (c .before), ne-eqb _ 1 (q .0 .1), ne-eqb _ 2 (q .1), ne-eqb _ 3 (r .0 .0 .1), ne-eqb _ 4 (r .0 .1), ne-eqb _ 5 (r .1)) (refuses refl refl)
+    let q = r .0 .0 .0 .0 in
+    rw (fitting (c .before), ne-eqb _ 1 (q .0 .1), ne-eqb _ 2 (q .1), ne-eqb _ 3 (r .0 .0 .0 .1), ne-eqb _ 4 (r .0 .0 .1), ne-eqb _ 5 (r .0 .1), ne-eqb _ 6 (r .1)) (refuses refl refl)
 
 pub take-record-spec : {M : Type 1} → statement M
 unfolding stepAt
@@ -45,9 +45,11 @@ take-record-spec =
     (λ c κs. ready (c .before .before .before))
     (λ c κs. ready (c .before .before))
     (λ c κs. within (c .before))
+    (λ c κs. ready (c .before .before .before))
     (λ c p t. rw (fitting (c .before), c .match .keys1) (refuses refl refl))
     (λ c p t. let d = c .before .before .before in rw (fitting (d .before), d .match .keys2) (c .take-edge .ensures _ p t))
     (λ c p t. let d = c .before .before .before in rw (fitting (d .before), d .match .keys3) (c .take-atom .ensures _ p t))
     (λ c p t. let d = c .before .before in rw (fitting (d .before), d .match .keys4) (c .take-clause .ensures _ _ p t))
     (λ c p t. let d = c .before in rw (fitting (d .before), d .match .keys5) (c .take-end .ensures _ _ _ p t))
-    returns-7)
+    (λ c p t. let d = c .before .before .before in rw (fitting (d .before), d .match .keys6) (c .take-edge2 .ensures _ p t))
+    returns-8)

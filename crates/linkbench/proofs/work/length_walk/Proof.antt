@@ -1,0 +1,29 @@
+-- `linkbench::work::length_walk` is safe and ends. The measure is the number of repetitions that are left. The node stays below 64.
+-- Assumes nothing.
+use Prim.Native.Nat.{_<_}
+use borrow.Author.Needs.{needs}
+use Rattle.linkbench.proofs.work.length_walk.Statement.{statement}
+use Rattle.linkbench.proofs.work.length_walk.Tie as tie
+
+abbrev Inv-loop : tie.InvT-loop
+Inv-loop plan edges atoms clauses repetitions chains sum₀ source₀ left₀ sum source left = source < 64
+
+abbrev μ-loop : tie.MeasureT-loop
+μ-loop plan edges atoms clauses repetitions chains sum₀ source₀ left₀ sum source left = left
+
+pub length-walk-spec : {M : Type 1} → statement M
+length-walk-spec =
+    tie.close
+    (tie.spec
+    Inv-loop
+    μ-loop
+    (λ c κs. search needs)
+    (λ c. search needs)
+    (λ c κs. search needs)
+    (λ c κs. search needs)
+    (λ c κs. search needs)
+    (λ c κs. search needs)
+    (λ c. search needs)
+    (λ c. search needs)
+    (λ c. search needs)
+    (λ c. search needs))
