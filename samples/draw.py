@@ -29,8 +29,8 @@ class Sample:
         self.nodes = {}
         self.places = {}  # where a node stands in the picture, if the text says so
         self.variables = 0
-        self.edges = []  # from, to, variable, whether it is one half of a link
-        self.atoms = []  # from, to, bound or None, variable
+        self.edges = []  # from, to, variable, length or None, whether it is one half of a link
+        self.atoms = []  # kind, from, to, bound, variable
         self.clauses = []
 
     def path(self, ending):
@@ -70,19 +70,32 @@ def read_line(sample, words):
             sample.nodes[int(number)] = " ".join(rest)
         case ["variables", count]:
             sample.variables = int(count)
-        case ["edge", a, b, "variable", x]:
-            sample.edges.append((int(a), int(b), int(x), False))
-        case ["link", a, b, "variable", x]:
-            sample.edges.append((int(a), int(b), int(x), True))
-            sample.edges.append((int(b), int(a), int(x), True))
+        case ["edge", a, b, "variable", x, *rest]:
+            sample.edges.append((int(a), int(b), int(x), length(rest), False))
+        case ["link", a, b, "variable", x, *rest]:
+            sample.edges.append((int(a), int(b), int(x), length(rest), True))
+            sample.edges.append((int(b), int(a), int(x), length(rest), True))
         case ["atom", a, "reaches", b, "variable", x]:
-            sample.atoms.append((int(a), int(b), None, int(x)))
+            sample.atoms.append((1, int(a), int(b), 0, int(x)))
         case ["atom", a, "within", bound, "of", b, "variable", x]:
-            sample.atoms.append((int(a), int(b), int(bound), int(x)))
+            sample.atoms.append((2, int(a), int(b), int(bound), int(x)))
+        case ["atom", a, "length", "at", "most", bound, "to", b, "variable", x]:
+            sample.atoms.append((3, int(a), int(b), int(bound), int(x)))
         case ["clause", *literals]:
             sample.clauses.append([int(literal) for literal in literals])
         case ["at", "most", most, "of", *variables]:
             add_at_most(sample, int(most), [int(variable) for variable in variables])
+        case _:
+            raise ValueError(words)
+
+
+def length(words):
+    """What may stand behind an edge's variable: its length, or nothing."""
+    match words:
+        case []:
+            return None
+        case ["length", number]:
+            return int(number)
         case _:
             raise ValueError(words)
 
@@ -100,11 +113,10 @@ def record(tag, form, *fields):
 
 def plan_bytes(sample):
     records = [record(1, "HH", len(sample.nodes), sample.variables)]
-    for a, b, x, _ in sample.edges:
-        records.append(record(2, "HHH", a, b, x))
-    for a, b, bound, x in sample.atoms:
-        kind = 1 if bound is None else 2
-        records.append(record(3, "BHHHH", kind, a, b, bound or 0, x))
+    for a, b, x, long, _ in sample.edges:
+        records.append(record(2, "HHH", a, b, x) if long is None else record(6, "HHHH", a, b, x, long))
+    for kind, a, b, bound, x in sample.atoms:
+        records.append(record(3, "BHHHH", kind, a, b, bound, x))
     for literals in sample.clauses:
         records.append(record(4, "h" * len(literals), *literals))
     records.append(record(5, ""))
@@ -166,7 +178,7 @@ def dot_source(sample):
     edges = list(drawn(sample))
     # Many labels would cover each other.
     shown = len(edges) <= MOST_LABELS
-    lines += [f"  {a} -> {b} [{look(x, both, shown, found)}];" for a, b, x, both in edges]
+    lines += [f"  {a} -> {b} [{look(x, long, both, shown, found)}];" for a, b, x, long, both in edges]
     lines += [f'  // {atom_text(atom)}' for atom in sample.atoms]
     return "\n".join(lines) + "\n}\n"
 
@@ -174,10 +186,10 @@ def dot_source(sample):
 def drawn(sample):
     """A link is two edges but one line."""
     halves = set()
-    for a, b, x, both in sample.edges:
-        if not both or (b, a, x) not in halves:
-            halves.add((a, b, x))
-            yield a, b, x, both
+    for a, b, x, long, both in sample.edges:
+        if not both or (b, a, x, long) not in halves:
+            halves.add((a, b, x, long))
+            yield a, b, x, long, both
 
 
 def node_look(sample, node):
@@ -186,9 +198,10 @@ def node_look(sample, node):
     return f'label="{label}"' + (f', pos="{place[0]:g},{place[1]:g}!"' if place else "")
 
 
-def look(x, both, shown, found):
+def look(x, long, both, shown, found):
     """Lit, dark, or neither where there is no plan."""
-    ends = ("dir=none, " if both else "") + (f'label="{x}", ' if shown else "")
+    label = f"{x}" if long is None else f"{x} ({long})"
+    ends = ("dir=none, " if both else "") + (f'label="{label}", ' if shown else "")
     if x in found:
         return f'{ends}color="#1a7f37", penwidth=3'
     if -x in found:
@@ -197,9 +210,13 @@ def look(x, both, shown, found):
 
 
 def atom_text(atom):
-    a, b, bound, x = atom
-    said = f"{a} reaches {b}" if bound is None else f"{a} within {bound} of {b}"
-    return f"variable {x}: {said}"
+    kind, a, b, bound, x = atom
+    said = {
+        1: f"{a} reaches {b}",
+        2: f"{a} within {bound} of {b}",
+        3: f"{a} length at most {bound} to {b}",
+    }
+    return f"variable {x}: {said[kind]}"
 
 
 def write_pictures(sample):

@@ -1,12 +1,14 @@
 //! The yardstick's search against the reference's: outcome, plan and count. And its
 //! texts: every byte that it prints, and every clause or refusal that it reads.
 
+use crate::engine::Engine;
 use crate::print::print;
-use crate::{engine, heavy, rules};
+use crate::{engine, heavy, lengths, rules};
 use reference::dimacs;
-use reference::file::{read, PlanFile};
+use reference::file::{read, PlanFile, NODES};
 use reference::generate::requests::affordable;
-use reference::generate::{file, sort, texts};
+use reference::generate::{draw, texts};
+use reference::meaning::{distances_over, Measure};
 use reference::random::Random;
 use reference::search::{search, Outcome};
 
@@ -17,27 +19,38 @@ const HEAVY_BRANCHINGS: u32 = 1_500;
 const DRAWN_NUMBERS: usize = 20_000;
 
 pub fn run(seed: u32, files: u32) -> Result<(), String> {
-    let mut accepted = 0;
+    let (mut accepted, mut about_lengths) = (0, 0);
     for number in 0..files {
         let mut random = Random::part(seed.into(), number.into());
-        let sort = sort(&mut random);
-        if let Ok(plan) = read(&file(sort, &mut random)) {
+        let (_, file) = draw(&mut random);
+        if let Ok(plan) = read(&file) {
             accepted += 1;
             let budget = affordable(&plan);
             let name = format!("file {number} of seed {seed}");
             compare(&name, &plan, budget)?;
             compare(&name, &plan, random.below(9) as u32)?;
-            compare_text(&name, &heavy::shortened(&plan, DRAWN_NUMBERS))?;
+            compare_lengths(&name, &plan)?;
+            if heavy::has_list(&plan) {
+                compare_text(&name, &heavy::shortened(&plan, DRAWN_NUMBERS))?;
+            }
+            about_lengths += u32::from(plan.first_about_lengths().is_some());
             compare_rules(&name, &plan, &texts::text(&plan, &mut random))?;
         }
     }
-    for heavy in heavy::files() {
+    let heavies = heavy::files();
+    for heavy in &heavies {
         compare(heavy.name, &heavy.plan, HEAVY_BRANCHINGS)?;
-        compare_text(heavy.name, &heavy::shortened(&heavy.plan, heavy::ROOM))?;
+        compare_lengths(heavy.name, &heavy.plan)?;
+        if heavy::has_list(&heavy.plan) {
+            compare_text(heavy.name, &heavy::shortened(&heavy.plan, heavy::ROOM))?;
+        }
         let (bare, text) = heavy::own_rules(&heavy.plan);
         compare_rules(heavy.name, &bare, &text)?;
     }
-    println!("check: seed {seed}, {accepted} drawn files and 5 heavy ones, no difference");
+    println!(
+        "check: seed {seed}, {accepted} drawn files ({about_lengths} with kind 3) and {} heavy ones, no difference",
+        heavies.len()
+    );
     Ok(())
 }
 
@@ -57,6 +70,32 @@ fn compare(name: &str, plan: &PlanFile, budget: u32) -> Result<(), String> {
         said(&theirs.outcome),
         theirs.branchings
     ))
+}
+
+/// The sums of lengths from each node, with all open, where an atom asks for any.
+fn compare_lengths(name: &str, plan: &PlanFile) -> Result<(), String> {
+    let engine = Engine::of(plan);
+    let Some(shortest) = engine.graph().over_shortest() else {
+        return Ok(());
+    };
+    let mut sums = [lengths::NONE; NODES];
+    for source in 0..plan.nodes {
+        lengths::walk(
+            engine.graph().over_neighbours(),
+            shortest,
+            source,
+            &mut sums,
+        );
+        let there = |&sum: &u32| (sum != lengths::NONE).then_some(sum as usize);
+        let mine: Vec<Option<usize>> = sums[..plan.nodes].iter().map(there).collect();
+        let theirs = distances_over(Measure::Lengths, plan.nodes, &plan.edges, source);
+        if mine != theirs {
+            return Err(format!(
+                "{name}, lengths from {source}: yardstick {mine:?}, reference {theirs:?}\n"
+            ));
+        }
+    }
+    Ok(())
 }
 
 fn compare_text(name: &str, plan: &PlanFile) -> Result<(), String> {

@@ -40,5 +40,17 @@ fn files() -> Vec<PlanFile> {
                 .map(|rules| heavy::metro(seed, rules)),
         );
     }
+    // With lengths, as plans and as impossible, from hundreds of branchings to 55,000.
+    let delays = [
+        (12, 220),
+        (8, 300),
+        (1, 420),
+        (12, 280),
+        (4, 460),
+        (9, 280),
+        (10, 250),
+        (12, 250),
+    ];
+    plans.extend(delays.map(|(seed, rules)| heavy::delays(seed, rules)));
     plans
 }

@@ -2,7 +2,7 @@
 //! instead of copies.
 
 use crate::clauses::Clauses;
-use crate::graph::Graph;
+use crate::graph::{Graph, Marks};
 use crate::literals::{off, on, Clash, Lit, Trail};
 use reference::file::PlanFile;
 use reference::search::{Outcome, Searched};
@@ -11,7 +11,7 @@ use reference::search::{Outcome, Searched};
 struct Tried {
     variable: usize,
     set: usize,
-    marks: usize,
+    marks: Marks,
 }
 
 pub struct Engine {
@@ -97,7 +97,7 @@ impl Engine {
         true
     }
 
-    fn take_back(&mut self, set: usize, marks: usize) {
+    fn take_back(&mut self, set: usize, marks: Marks) {
         self.graph.forget_changes();
         self.graph.take_back(marks);
         while self.trail.len() > set {

@@ -4,8 +4,9 @@
 //! Along one branch edges only come into the under graph and only leave the over
 //! graph. A new edge lowers hops from its end onwards; a lost edge matters only
 //! if no other edge supports its end. Every changed hop is logged, and taken
-//! back with the trail.
+//! back with the trail. Sums of lengths stand beside them, where an atom asks for one.
 
+use crate::lengths::{Lengths, Shortest, Span};
 use reference::file::{Kind, PlanFile, NODES};
 
 /// Larger than any hop count there is, and compared as such only in here.
@@ -87,10 +88,10 @@ struct Source {
     over: Hops,
 }
 
-/// The largest hop count that makes an atom true.
+/// The largest hop count, or sum of lengths, that makes an atom true.
 struct Target {
     node: usize,
-    most: u8,
+    most: u32,
 }
 
 /// What was there before a change.
@@ -100,11 +101,20 @@ enum Logged {
     Settled { atom: u8 },
 }
 
+/// How long the logs are: this one and that of the lengths.
+#[derive(Clone, Copy)]
+pub struct Marks {
+    hops: usize,
+    lengths: usize,
+}
+
 pub struct Graph {
     under: Sets,
     over: Sets,
     /// For each variable (from 0) its edges, without those from a node to itself.
-    edges: Vec<Vec<(u8, u8)>>,
+    edges: Vec<Vec<Span>>,
+    /// Only where there is an atom of kind 3.
+    lengths: Option<Lengths>,
     sources: Vec<Source>,
     targets: Vec<Target>,
     /// For each variable its atoms as bits.
@@ -128,6 +138,7 @@ impl Graph {
             under: Sets::new(),
             over: Sets::new(),
             edges: vec![Vec::new(); plan.variables],
+            lengths: None,
             sources: Vec::new(),
             targets: Vec::new(),
             atoms: vec![0; plan.variables],
@@ -141,7 +152,14 @@ impl Graph {
         };
         for edge in plan.edges.iter().filter(|edge| edge.from != edge.to) {
             graph.over.insert(edge.from, edge.to);
-            graph.edges[edge.variable - 1].push((edge.from as u8, edge.to as u8));
+            graph.edges[edge.variable - 1].push(Span {
+                from: edge.from as u8,
+                to: edge.to as u8,
+                length: edge.length() as u32,
+            });
+        }
+        if plan.first_about_lengths().is_some() {
+            graph.lengths = Some(Lengths::of(graph.edges.iter().flatten().copied()));
         }
         graph.add_atoms(plan);
         graph
@@ -152,13 +170,18 @@ impl Graph {
             self.unsettled |= 1 << number;
             self.atoms[atom.variable - 1] |= 1 << number;
             let most = match atom.kind {
-                Kind::Reaches => NONE - 1,
-                Kind::Within(bound) => bound.min(usize::from(NONE) - 1) as u8,
+                Kind::Reaches => usize::from(NONE) - 1,
+                Kind::Within(bound) => bound.min(usize::from(NONE) - 1),
+                Kind::LengthAtMost(bound) => bound,
             };
             self.targets.push(Target {
                 node: atom.to,
-                most,
+                most: most as u32,
             });
+            if let (Kind::LengthAtMost(_), Some(lengths)) = (atom.kind, &mut self.lengths) {
+                lengths.add_atom(number, atom.from, &self.over.next);
+                continue;
+            }
             match self
                 .sources
                 .iter_mut()
@@ -182,12 +205,20 @@ impl Graph {
         self.sources.push(source);
     }
 
-    pub fn marks(&self) -> usize {
-        self.log.len()
+    pub fn marks(&self) -> Marks {
+        Marks {
+            hops: self.log.len(),
+            lengths: self.lengths.as_ref().map_or(0, Lengths::marks),
+        }
     }
 
     pub fn over_neighbours(&self) -> &[u64; NODES] {
         &self.over.next
+    }
+
+    /// The shortest edges between them, where an atom asks for lengths.
+    pub fn over_shortest(&self) -> Option<&Shortest> {
+        self.lengths.as_ref().map(Lengths::over_shortest)
     }
 
     /// Takes note of a variable (from 0) that was just set.
@@ -196,8 +227,12 @@ impl Graph {
         let mask = self.atoms[variable];
         *(if on { &mut self.on } else { &mut self.off }) |= mask;
         for k in 0..self.edges[variable].len() {
-            let (from, to) = self.edges[variable][k];
+            let span = self.edges[variable][k];
+            let (from, to) = (span.from, span.to);
             let (u, w) = (usize::from(from), usize::from(to));
+            if let Some(lengths) = &mut self.lengths {
+                lengths.set(span, on);
+            }
             if on {
                 if self.under.insert(u, w) {
                     self.added.push((from, to));
@@ -211,8 +246,11 @@ impl Graph {
     pub fn unset(&mut self, variable: usize, on: bool) {
         let mask = self.atoms[variable];
         *(if on { &mut self.on } else { &mut self.off }) &= !mask;
-        for &(from, to) in &self.edges[variable] {
-            let (u, w) = (usize::from(from), usize::from(to));
+        for &span in &self.edges[variable] {
+            let (u, w) = (usize::from(span.from), usize::from(span.to));
+            if let Some(lengths) = &mut self.lengths {
+                lengths.unset(span, on);
+            }
             if on {
                 self.under.remove(u, w);
             } else {
@@ -224,10 +262,16 @@ impl Graph {
     pub fn forget_changes(&mut self) {
         self.added.clear();
         self.removed.clear();
+        if let Some(lengths) = &mut self.lengths {
+            lengths.forget_changes();
+        }
     }
 
-    pub fn take_back(&mut self, marks: usize) {
-        while self.log.len() > marks {
+    pub fn take_back(&mut self, marks: Marks) {
+        if let Some(lengths) = &mut self.lengths {
+            lengths.take_back(marks.lengths);
+        }
+        while self.log.len() > marks.hops {
             match self.log.pop() {
                 Some(Logged::Under { source, node, hops }) => {
                     self.sources[usize::from(source)].under[usize::from(node)] = hops;
@@ -250,7 +294,54 @@ impl Graph {
         if all || !self.removed.is_empty() {
             self.follow_removed(all, &mut found);
         }
+        // Taken out for the time, so that both sides can be lent.
+        if let Some(mut lengths) = self.lengths.take() {
+            self.follow_lengths(&mut lengths, all, &mut found);
+            self.lengths = Some(lengths);
+        }
         self.forget_changes();
+    }
+
+    /// The same for lengths, and with the same atoms left out.
+    fn follow_lengths(
+        &mut self,
+        lengths: &mut Lengths,
+        all: bool,
+        found: &mut impl FnMut(usize, bool),
+    ) {
+        for s in 0..lengths.sources.len() {
+            let wanted = lengths.sources[s].atoms & self.unsettled & !self.on;
+            let looked = wanted != 0 && (all || lengths.has_added());
+            if looked && lengths.follow_added(s, &self.under.next) | all {
+                let under = &lengths.sources[s].under;
+                self.settle(wanted, true, |node, most| under[node] <= most, found);
+            }
+            let wanted = lengths.sources[s].atoms & self.unsettled & !self.off;
+            let looked = wanted != 0 && (all || lengths.has_removed());
+            let (next, before) = (&self.over.next, &self.over.before);
+            if looked && lengths.follow_removed(s, next, before) | all {
+                let over = &lengths.sources[s].over;
+                self.settle(wanted, false, |node, most| over[node] > most, found);
+            }
+        }
+    }
+
+    /// Tells of each wanted atom that its target's distance settles.
+    fn settle(
+        &mut self,
+        wanted: u64,
+        holds: bool,
+        settles: impl Fn(usize, u32) -> bool,
+        found: &mut impl FnMut(usize, bool),
+    ) {
+        bits(wanted, |atom| {
+            let target = &self.targets[atom];
+            if settles(target.node, target.most) {
+                self.unsettled &= !(1 << atom);
+                self.log.push(Logged::Settled { atom: atom as u8 });
+                found(atom, holds);
+            }
+        });
     }
 
     /// An atom whose variable is on needs no look at the under graph: there it
@@ -268,7 +359,9 @@ impl Graph {
                 changed |= self.lower(s, u, w);
             }
             if changed {
-                self.settle_holding(s, wanted, found);
+                let under = self.sources[s].under;
+                let holds = |node: usize, most: u32| u32::from(under[node]) <= most;
+                self.settle(wanted, true, holds, found);
             }
         }
     }
@@ -305,18 +398,6 @@ impl Graph {
         true
     }
 
-    fn settle_holding(&mut self, s: usize, wanted: u64, found: &mut impl FnMut(usize, bool)) {
-        let hops = &self.sources[s].under;
-        bits(wanted, |atom| {
-            let target = &self.targets[atom];
-            if hops[target.node] <= target.most {
-                self.unsettled &= !(1 << atom);
-                self.log.push(Logged::Settled { atom: atom as u8 });
-                found(atom, true);
-            }
-        });
-    }
-
     fn follow_removed(&mut self, all: bool, found: &mut impl FnMut(usize, bool)) {
         for s in 0..self.sources.len() {
             let wanted = self.sources[s].atoms & self.unsettled & !self.off;
@@ -325,10 +406,12 @@ impl Graph {
             }
             if self.removed.iter().any(|&(u, w)| self.was_needed(s, u, w)) {
                 self.walk_again(s);
-                self.settle_failing(s, wanted, found);
-            } else if all {
-                self.settle_failing(s, wanted, found);
+            } else if !all {
+                continue;
             }
+            let over = self.sources[s].over;
+            let fails = |node: usize, most: u32| u32::from(over[node]) > most;
+            self.settle(wanted, false, fails, found);
         }
     }
 
@@ -357,17 +440,5 @@ impl Graph {
             hops: before,
         });
         walk(&self.over.next, source.node, &mut source.over);
-    }
-
-    fn settle_failing(&mut self, s: usize, wanted: u64, found: &mut impl FnMut(usize, bool)) {
-        let hops = &self.sources[s].over;
-        bits(wanted, |atom| {
-            let target = &self.targets[atom];
-            if hops[target.node] > target.most {
-                self.unsettled &= !(1 << atom);
-                self.log.push(Logged::Settled { atom: atom as u8 });
-                found(atom, false);
-            }
-        });
     }
 }

@@ -1,10 +1,11 @@
-//! Five heavy files. Each has more branchings than the default budget, so that
+//! Six heavy files. Each has more branchings than the default budget, so that
 //! time per branching is measured deep in the tree, where searches spend it.
 
 use crate::print::print;
 use reference::clauses::counts;
 use reference::file::{read, PlanFile, ATOMS, EDGES, NODES};
 use reference::generate::limits::with_longest_list;
+use reference::meaning::{distances_over, Measure};
 use reference::random::Random;
 use reference::write::to_bytes;
 use std::fs;
@@ -43,6 +44,11 @@ pub fn files() -> Vec<Heavy> {
             what: "64 nodes in a row, four fibres a span",
             plan: chain(NODES),
         },
+        Heavy {
+            name: "delays",
+            what: "64 nodes, 256 edges with lengths, 30 delay budgets",
+            plan: delays(7, 300),
+        },
     ]
 }
 
@@ -60,6 +66,11 @@ pub fn write_files(folder: &Path) -> Result<(), String> {
         fs::write(folder.join(format!("{name}.plan")), bytes).map_err(said)?;
     }
     Ok(())
+}
+
+/// Whether there is a list of a file to be written or printed, and so to be timed.
+pub fn has_list(plan: &PlanFile) -> bool {
+    plan.first_about_lengths().is_none()
 }
 
 /// How many numbers a list may have that is written or printed to be timed, as in
@@ -184,6 +195,52 @@ pub fn metro(seed: u64, rules: usize) -> PlanFile {
     let home = plan.reaches(NODES - 1, 0);
     plan.must(home);
     assert_eq!(plan.atoms.len(), ATOMS - 3);
+    for _ in 0..rules {
+        let rule = [(); 3].map(|()| random.between(1, links) as i16);
+        plan.clauses.push(
+            rule.map(|x| if random.chance(60) { -x } else { x })
+                .to_vec(),
+        );
+    }
+    plan
+}
+
+/// The same hubs and access rings with delays in microseconds: the core is quick, an
+/// access ring is slow, and a chord may be either. Each hub has delay budgets to sites
+/// of every ring, in turns with the other hubs; a few sites have hop limits too.
+pub fn delays(seed: u64, rules: usize) -> PlanFile {
+    let mut random = Random::new(seed);
+    let (hubs, sites) = (4, 15);
+    let mut plan = PlanFile::with_nodes(NODES);
+    for hub in 0..hubs {
+        plan.long_link(hub, (hub + 1) % hubs, random.between(20, 60));
+        let site = |k: usize| hubs + hub * sites + k;
+        // The first site stands beside its hub.
+        plan.link(hub, site(0));
+        (1..sites).for_each(|k| {
+            plan.long_link(site(k - 1), site(k), random.between(40, 200));
+        });
+        plan.long_link(site(sites - 1), hub, random.between(40, 200));
+        plan.long_link(site(sites / 2), (hub + 1) % hubs, random.between(100, 400));
+    }
+    while plan.edges.len() < EDGES {
+        let a = random.between(hubs, NODES - 1);
+        let b = (a + random.between(2, 20)) % NODES;
+        plan.long_link(a, b, random.between(60, 900));
+    }
+    let links = plan.variables;
+    for k in 0..30 {
+        let (hub, site) = (k % hubs, hubs + 2 * k);
+        let least = distances_over(Measure::Lengths, NODES, &plan.edges, hub)[site];
+        let least = least.expect("a ring leads to every site");
+        let budget = least * random.between(140, 220) / 100;
+        let near = plan.length_at_most(hub, site, budget);
+        plan.must(near);
+        if k % 6 == 0 {
+            let near = plan.within(hub, site, random.between(6, 8));
+            plan.must(near);
+        }
+    }
     for _ in 0..rules {
         let rule = [(); 3].map(|()| random.between(1, links) as i16);
         plan.clauses.push(

@@ -7,6 +7,7 @@ mod deep;
 mod engine;
 mod graph;
 mod heavy;
+mod lengths;
 mod literals;
 mod print;
 mod rules;
@@ -17,10 +18,10 @@ use std::process::ExitCode;
 
 const USAGE: &str = "\
 usage: yardstick COMMAND
-  files DIR            the five heavy plan files into DIR, and the one with the longest list
+  files DIR            the six heavy plan files into DIR, and the one with the longest list
   deep DIR             files whose search ends deep in its tree into DIR, and what linkplan prints
   check [SEED [FILES]] the yardstick's search and texts against the reference's, on drawn and heavy files
-  time [BRANCHINGS]    time per branching on the heavy files, and per walk, closing, number and byte
+  time [BRANCHINGS]    time per branching on the heavy files, and per walk, closing, number, byte and length walk
 ";
 
 fn main() -> ExitCode {

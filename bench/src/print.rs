@@ -89,6 +89,7 @@ impl Blocks<'_> {
         let levels = match atom.kind {
             Kind::Reaches => longest,
             Kind::Within(bound) => bound.min(longest),
+            Kind::LengthAtMost(_) => unreachable!("a file about lengths has no text"),
         };
         self.text.extend_from_slice(b"c atom ");
         number(self.text, k);

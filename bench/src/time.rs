@@ -7,7 +7,8 @@
 use crate::clock::time;
 use crate::engine::{self, Engine};
 use crate::graph::{walk, NONE};
-use crate::heavy::{self, own_rules, shortened, ROOM};
+use crate::heavy::{self, has_list, own_rules, shortened, ROOM};
+use crate::lengths;
 use crate::print::print;
 use crate::rules;
 use reference::clauses;
@@ -105,25 +106,32 @@ fn once(engine: &Timed, file: &[u8], branchings: u32) -> f64 {
 
 /// The steps by themselves, done by hand: a walk with everything lit, a closing
 /// from all open, a number of the written clauses and a reading, which are the
-/// reference's, a number printed, and a byte of rules read.
+/// reference's, a number printed, a byte of rules read, and a length walk.
 fn time_steps() {
-    println!("\nsteps by hand, in nanoseconds");
+    println!("\nsteps by hand, in nanoseconds; - where a file has no such step");
     println!(
-        "{:<10}{:>12}{:>12}{:>12}{:>12}{:>12}{:>12}",
-        "file", "walk", "closing", "number", "reading", "printed", "byte"
+        "{:<10}{:>12}{:>12}{:>12}{:>12}{:>12}{:>12}{:>12}",
+        "file", "walk", "closing", "number", "reading", "printed", "byte", "length-walk"
     );
     for heavy in heavy::files() {
-        let walk = time_walk(&heavy.plan);
-        let closing = time_closing(&heavy.plan);
-        let number = time_number(&heavy.plan);
-        let reading = time_reading(&to_bytes(&heavy.plan));
-        let printed = time_printed(&heavy.plan);
-        let byte = time_byte(&heavy.plan);
+        let plan = &heavy.plan;
+        let list = has_list(plan).then_some(plan);
+        let walk = time_walk(plan);
+        let closing = time_closing(plan);
+        let number = shown(list.map(time_number), 2);
+        let reading = time_reading(&to_bytes(plan));
+        let printed = shown(list.map(time_printed), 2);
+        let byte = time_byte(plan);
+        let length_walk = shown(time_length_walk(plan), 0);
         println!(
-            "{:<10}{walk:>12.0}{closing:>12.0}{number:>12.2}{reading:>12.0}{printed:>12.2}{byte:>12.2}",
+            "{:<10}{walk:>12.0}{closing:>12.0}{number:>12}{reading:>12.0}{printed:>12}{byte:>12.2}{length_walk:>12}",
             heavy.name
         );
     }
+}
+
+fn shown(time: Option<f64>, digits: usize) -> String {
+    time.map_or("-".into(), |time| format!("{time:.digits$}"))
 }
 
 fn time_walk(plan: &PlanFile) -> f64 {
@@ -138,6 +146,22 @@ fn time_walk(plan: &PlanFile) -> f64 {
         }
     });
     time.as_nanos() as f64 / TIMES as f64
+}
+
+/// From each node in turn, in the over graph of all open, its table made beforehand.
+fn time_length_walk(plan: &PlanFile) -> Option<f64> {
+    const TIMES: usize = 20_000;
+    let engine = Engine::of(plan);
+    let next = engine.graph().over_neighbours();
+    let shortest = engine.graph().over_shortest()?;
+    let mut sums = [lengths::NONE; NODES];
+    let time = best(|| {
+        for k in 0..TIMES {
+            lengths::walk(black_box(next), shortest, k % plan.nodes, &mut sums);
+            black_box(&sums);
+        }
+    });
+    Some(time.as_nanos() as f64 / TIMES as f64)
 }
 
 /// With the tables made beforehand, as they are in the middle of a search.

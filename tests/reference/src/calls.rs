@@ -1,6 +1,7 @@
-//! The eight public calls on file bytes, with refusals 9 to 12 and the lent buffer.
+//! The eight public calls on file bytes, with refusals 9 to 13 and the lent buffer.
 //!
-//! The reader's refusals 1 to 8 come first, then 9 to 11 or those of a text, then 12.
+//! The reader's refusals 1 to 8 come first, then 9 to 11 or those of a text, then 13,
+//! then 12.
 //! A lent buffer is written last of all, so everything that is not a written
 //! answer leaves it as it was.
 
@@ -131,6 +132,7 @@ pub fn write_clauses(file: &[u8], out: &mut [i32]) -> Answer {
 
 fn try_write_clauses(file: &[u8], out: &mut [i32]) -> Checked<Answer> {
     let plan = file::read(file)?;
+    check_writable(&plan)?;
     // Counted first: the list of a full file is long, and refused in any buffer we try.
     check_room(out.len(), clauses::counts(&plan).numbers)?;
     let written = clauses::write(&plan);
@@ -147,7 +149,9 @@ pub fn write_dimacs(file: &[u8], out: &mut [u8]) -> Answer {
 }
 
 fn try_write_dimacs(file: &[u8], out: &mut [u8]) -> Checked<Answer> {
-    let text = dimacs::print(&file::read(file)?);
+    let plan = file::read(file)?;
+    check_writable(&plan)?;
+    let text = dimacs::print(&plan);
     fill(out, text.as_bytes())?;
     Ok(Answer::Printed(text.len()))
 }
@@ -198,6 +202,17 @@ fn check_atom(plan: &PlanFile, atom: usize) -> Checked<()> {
             number: 11,
             value: count,
         })
+    }
+}
+
+/// Refusal 13, for both forms of the written-out clauses.
+pub fn check_writable(plan: &PlanFile) -> Checked<()> {
+    match plan.first_about_lengths() {
+        None => Ok(()),
+        Some(atom) => Err(Refusal {
+            number: 13,
+            value: atom,
+        }),
     }
 }
 

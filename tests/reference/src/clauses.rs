@@ -1,4 +1,5 @@
-//! Document 01, "Writing out clauses".
+//! Document 01, "Writing out clauses". They are written for files without an atom of
+//! kind 3 (request C-13); the calls refuse the others before they come here.
 
 use crate::file::{Atom, Kind, PlanFile};
 use std::fmt::Write;
@@ -85,6 +86,7 @@ fn last_level(plan: &PlanFile, atom: &Atom) -> usize {
     match atom.kind {
         Kind::Reaches => longest,
         Kind::Within(bound) => bound.min(longest),
+        Kind::LengthAtMost(_) => unreachable!("a file about lengths is refused with 13"),
     }
 }
 

@@ -1,8 +1,9 @@
 //! Document 01, "Meaning": closing, the smallest set that obeys the rules.
 
-use crate::file::PlanFile;
+use crate::file::{Atom, PlanFile};
 use crate::meaning::{
-    hops_over, literal, literal_value, neighbours, truth, Graph, Hops, Neighbours, OFF, ON, OPEN,
+    distances_over, edges, literal, literal_value, measure, truth, Distances, Edges, Graph,
+    Measure, OFF, ON, OPEN,
 };
 
 /// The given literals led to both signs of a variable, or to a clause with all false.
@@ -68,10 +69,10 @@ fn apply_atoms(plan: &PlanFile, values: &mut [i8]) -> Result<(), Clash> {
     let mut under = Walks::new(plan, Graph::Under, values);
     let mut over = Walks::new(plan, Graph::Over, values);
     for atom in &plan.atoms {
-        if truth(atom, under.from(atom.from)) {
+        if truth(atom, under.of(atom)) {
             add(values, literal(atom.variable, ON))?;
         }
-        if !truth(atom, over.from(atom.from)) {
+        if !truth(atom, over.of(atom)) {
             add(values, literal(atom.variable, OFF))?;
         }
     }
@@ -79,21 +80,31 @@ fn apply_atoms(plan: &PlanFile, values: &mut [i8]) -> Result<(), Clash> {
     Ok(())
 }
 
-/// The hops of one graph, walked once for each source that is asked for.
+/// The distances of one graph, walked once for each source and measure that is asked for.
 struct Walks {
-    neighbours: Neighbours,
-    hops: Vec<Option<Hops>>,
+    nodes: usize,
+    edges: Edges,
+    hops: Vec<Option<Distances>>,
+    lengths: Vec<Option<Distances>>,
 }
 
 impl Walks {
     fn new(plan: &PlanFile, graph: Graph, values: &[i8]) -> Walks {
-        let neighbours = neighbours(plan, graph, values);
-        let hops = vec![None; plan.nodes];
-        Walks { neighbours, hops }
+        Walks {
+            nodes: plan.nodes,
+            edges: edges(plan, graph, values),
+            hops: vec![None; plan.nodes],
+            lengths: vec![None; plan.nodes],
+        }
     }
 
-    fn from(&mut self, source: usize) -> &Hops {
-        let neighbours = &self.neighbours;
-        self.hops[source].get_or_insert_with(|| hops_over(neighbours, source))
+    fn of(&mut self, atom: &Atom) -> &Distances {
+        let measure = measure(atom.kind);
+        let known = match measure {
+            Measure::Hops => &mut self.hops,
+            Measure::Lengths => &mut self.lengths,
+        };
+        known[atom.from]
+            .get_or_insert_with(|| distances_over(measure, self.nodes, &self.edges, atom.from))
     }
 }

@@ -10,11 +10,16 @@ pub const CLAUSES: usize = 1_024;
 pub const LITERALS: usize = 4_096;
 pub const BOUND: usize = 255;
 
+/// Request C-13: an edge's length, and the bound of "length at most".
+pub const LENGTH: usize = 65_535;
+
 pub const HEAD: u8 = 1;
 pub const EDGE: u8 = 2;
 pub const ATOM: u8 = 3;
 pub const CLAUSE: u8 = 4;
 pub const END: u8 = 5;
+/// An edge with a length, its fourth field.
+pub const LONG_EDGE: u8 = 6;
 
 /// A tag and a value length of two bytes stand before each value.
 pub const RECORD_HEAD: usize = 3;
@@ -24,12 +29,29 @@ pub struct Edge {
     pub from: usize,
     pub to: usize,
     pub variable: usize,
+    /// What a record of tag 6 says; one of tag 2 says nothing.
+    pub stated_length: Option<usize>,
+}
+
+impl Edge {
+    /// "Tag 2 means length 1."
+    pub fn length(&self) -> usize {
+        self.stated_length.unwrap_or(1)
+    }
 }
 
 #[derive(Clone, Copy, Debug, PartialEq, Eq)]
 pub enum Kind {
     Reaches,
     Within(usize),
+    /// Kind 3, over the smallest sum of lengths.
+    LengthAtMost(usize),
+}
+
+impl Kind {
+    pub fn is_about_lengths(self) -> bool {
+        matches!(self, Kind::LengthAtMost(_))
+    }
 }
 
 #[derive(Clone, Copy, Debug, PartialEq, Eq)]
@@ -57,6 +79,17 @@ impl PlanFile {
 
     pub fn has_empty_clause(&self) -> bool {
         self.clauses.iter().any(Vec::is_empty)
+    }
+
+    /// Whether a record of tag 6 is there.
+    pub fn has_long_edge(&self) -> bool {
+        self.edges.iter().any(|edge| edge.stated_length.is_some())
+    }
+
+    /// The number of the first atom of kind 3.
+    pub fn first_about_lengths(&self) -> Option<usize> {
+        let is_such = |atom: &Atom| atom.kind.is_about_lengths();
+        self.atoms.iter().position(is_such).map(|place| place + 1)
     }
 }
 
@@ -136,7 +169,7 @@ fn check_tag(record: &Record) -> Result<(), Refusal> {
         return refuse(3, record.offset);
     }
     match record.tag {
-        HEAD | EDGE | ATOM | CLAUSE | END => Ok(()),
+        HEAD | EDGE | ATOM | CLAUSE | END | LONG_EDGE => Ok(()),
         _ => refuse(4, record.offset),
     }
 }
@@ -147,6 +180,7 @@ fn check_length(record: &Record) -> Result<(), Refusal> {
     let allowed = match record.tag {
         HEAD => length == 4,
         EDGE => length == 6,
+        LONG_EDGE => length == 8,
         ATOM => length == 9,
         // A clause may be empty (request C-12).
         CLAUSE => length % 2 == 0,
@@ -163,7 +197,8 @@ fn check_length(record: &Record) -> Result<(), Refusal> {
 fn take(plan: &mut PlanFile, record: &Record) -> Result<(), Refusal> {
     let taken = match record.tag {
         HEAD => take_head(plan, record),
-        EDGE => take_edge(plan, record),
+        EDGE => take_edge(plan, record, None),
+        LONG_EDGE => take_edge(plan, record, Some(record.field(0, 3))),
         ATOM => take_atom(plan, record),
         CLAUSE => take_clause(plan, record),
         _ => Ok(()),
@@ -188,14 +223,21 @@ fn take_head(plan: &mut PlanFile, record: &Record) -> Result<(), u32> {
     Ok(())
 }
 
-fn take_edge(plan: &mut PlanFile, record: &Record) -> Result<(), u32> {
+/// Both tags share one numbering and one limit.
+fn take_edge(
+    plan: &mut PlanFile,
+    record: &Record,
+    stated_length: Option<usize>,
+) -> Result<(), u32> {
     let edge = Edge {
         from: record.field(0, 0),
         to: record.field(0, 1),
         variable: record.field(0, 2),
+        stated_length,
     };
     check(edge.from < plan.nodes && edge.to < plan.nodes, 6)?;
     check((1..=plan.variables).contains(&edge.variable), 6)?;
+    check((1..=LENGTH).contains(&edge.length()), 6)?;
     check(plan.edges.len() < EDGES, 7)?;
     check(
         plan.atoms.iter().all(|atom| atom.variable != edge.variable),
@@ -210,6 +252,7 @@ fn take_atom(plan: &mut PlanFile, record: &Record) -> Result<(), u32> {
     let kind = match record.value[0] {
         1 if bound == 0 => Kind::Reaches,
         2 if bound <= BOUND => Kind::Within(bound),
+        3 if bound <= LENGTH => Kind::LengthAtMost(bound),
         _ => return Err(6),
     };
     let atom = Atom {

@@ -1,4 +1,5 @@
-//! An independent reference of linkplan, written from documents 01 and 02 alone.
+//! An independent reference of linkplan, written from documents 01 and 02 and the
+//! readings of docs/DECISIONS.md.
 //!
 //! It aims at being read beside the document, not at speed. The modules follow
 //! the document's sections; `brute` answers the same questions once more in

@@ -113,7 +113,10 @@ fn requests(options: Options) -> Result<(), String> {
     let count = options.count("count", 300)?;
     let largest = options.count("largest", protocol::MOST_FILE_BYTES)?;
     print(&protocol::stream(&generate::requests::requests(
-        seed, count, largest,
+        generate::draw,
+        seed,
+        count,
+        largest,
     )))
 }
 

@@ -1,4 +1,5 @@
-//! Document 01, "Meaning": literals, the under and over graphs, hops, atom truth.
+//! Document 01, "Meaning": literals, the under and over graphs, hops, atom truth;
+//! and the lengths of request C-13.
 
 use crate::file::{Atom, Edge, Kind, PlanFile};
 
@@ -40,27 +41,54 @@ pub fn has_edge(graph: Graph, values: &[i8], edge: &Edge) -> bool {
     }
 }
 
-/// Hops from one node to each node; `None` is "no path", and never a number.
-pub type Hops = Vec<Option<usize>>;
+/// What a path is measured by.
+#[derive(Clone, Copy, Debug, PartialEq, Eq)]
+pub enum Measure {
+    Hops,
+    Lengths,
+}
 
-/// For each node, the nodes one edge further in a graph.
-pub type Neighbours = Vec<Vec<usize>>;
-
-pub fn neighbours(plan: &PlanFile, graph: Graph, values: &[i8]) -> Neighbours {
-    let mut next = vec![Vec::new(); plan.nodes];
-    for edge in plan
-        .edges
-        .iter()
-        .filter(|edge| has_edge(graph, values, edge))
-    {
-        next[edge.from].push(edge.to);
+/// What an atom of a kind asks for.
+pub fn measure(kind: Kind) -> Measure {
+    match kind {
+        Kind::Reaches | Kind::Within(_) => Measure::Hops,
+        Kind::LengthAtMost(_) => Measure::Lengths,
     }
-    next
+}
+
+/// How far an edge leads: an edge of either tag is one hop.
+pub fn cost(measure: Measure, edge: &Edge) -> usize {
+    match measure {
+        Measure::Hops => 1,
+        Measure::Lengths => edge.length(),
+    }
+}
+
+/// The distances from one node to each node; `None` is "no path", and never a number.
+pub type Distances = Vec<Option<usize>>;
+
+/// The edges of a graph.
+pub type Edges = Vec<Edge>;
+
+pub fn edges(plan: &PlanFile, graph: Graph, values: &[i8]) -> Edges {
+    let there = |edge: &&Edge| has_edge(graph, values, edge);
+    plan.edges.iter().filter(there).copied().collect()
+}
+
+pub fn distances_over(measure: Measure, nodes: usize, edges: &Edges, source: usize) -> Distances {
+    match measure {
+        Measure::Hops => hops_over(nodes, edges, source),
+        Measure::Lengths => lengths_over(nodes, edges, source),
+    }
 }
 
 /// Nodes are met in the order of their hops, so the first count is the fewest.
-pub fn hops_over(neighbours: &Neighbours, source: usize) -> Hops {
-    let mut hops = vec![None; neighbours.len()];
+fn hops_over(nodes: usize, edges: &Edges, source: usize) -> Distances {
+    let mut neighbours = vec![Vec::new(); nodes];
+    for edge in edges {
+        neighbours[edge.from].push(edge.to);
+    }
+    let mut hops = vec![None; nodes];
     hops[source] = Some(0);
     let mut met = vec![(source, 0)];
     let mut at = 0;
@@ -77,21 +105,47 @@ pub fn hops_over(neighbours: &Neighbours, source: usize) -> Hops {
     hops
 }
 
-pub fn hops(plan: &PlanFile, graph: Graph, values: &[i8], source: usize) -> Hops {
-    hops_over(&neighbours(plan, graph, values), source)
+/// Every edge is tried again until none leads to its end by a smaller sum.
+fn lengths_over(nodes: usize, edges: &Edges, source: usize) -> Distances {
+    let mut lengths: Distances = vec![None; nodes];
+    lengths[source] = Some(0);
+    loop {
+        let before = lengths.clone();
+        for edge in edges {
+            let sum = lengths[edge.from].map(|length| length + edge.length());
+            lengths[edge.to] = smaller(lengths[edge.to], sum);
+        }
+        if lengths == before {
+            return lengths;
+        }
+    }
 }
 
-/// An atom's truth, given the hops from its source. No path makes every bound false.
-pub fn truth(atom: &Atom, hops: &Hops) -> bool {
-    match (hops[atom.to], atom.kind) {
+/// Any number is smaller than none.
+fn smaller(a: Option<usize>, b: Option<usize>) -> Option<usize> {
+    match (a, b) {
+        (Some(a), Some(b)) => Some(a.min(b)),
+        (only, None) | (None, only) => only,
+    }
+}
+
+/// The distances that an atom's kind asks for, from its source.
+pub fn distances(plan: &PlanFile, graph: Graph, values: &[i8], atom: &Atom) -> Distances {
+    let edges = edges(plan, graph, values);
+    distances_over(measure(atom.kind), plan.nodes, &edges, atom.from)
+}
+
+/// An atom's truth, given these distances. No path makes every bound false.
+pub fn truth(atom: &Atom, distances: &Distances) -> bool {
+    match (distances[atom.to], atom.kind) {
         (None, _) => false,
         (Some(_), Kind::Reaches) => true,
-        (Some(count), Kind::Within(bound)) => count <= bound,
+        (Some(distance), Kind::Within(bound) | Kind::LengthAtMost(bound)) => distance <= bound,
     }
 }
 
 pub fn atom_truth(plan: &PlanFile, graph: Graph, values: &[i8], atom: &Atom) -> bool {
-    truth(atom, &hops(plan, graph, values, atom.from))
+    truth(atom, &distances(plan, graph, values, atom))
 }
 
 #[derive(Clone, Copy, Debug, PartialEq, Eq)]

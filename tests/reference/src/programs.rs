@@ -58,7 +58,8 @@ pub fn linkcnf(file: &[u8]) -> String {
 
 /// The whole text, however long it is.
 pub fn linkdimacs(file: &[u8]) -> String {
-    match file::read(file) {
+    let writable = file::read(file).and_then(|plan| calls::check_writable(&plan).map(|()| plan));
+    match writable {
         Ok(plan) => dimacs::print(&plan),
         Err(refusal) => refusal_line(refusal),
     }

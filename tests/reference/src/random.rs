@@ -19,6 +19,12 @@ impl Random {
         Random::new(base ^ number.wrapping_mul(0xD6E8_FEB8_6659_FD93))
     }
 
+    /// A generator of its own for something beside the drawing, which goes on as if
+    /// nothing had been asked.
+    pub fn aside(&self) -> Random {
+        Random::part(self.state, 0)
+    }
+
     pub fn number(&mut self) -> u64 {
         self.state = self.state.wrapping_add(0x9E37_79B9_7F4A_7C15);
         let mut mixed = self.state;

@@ -1,6 +1,6 @@
 //! Writing plan files, whole ones and the pieces that damaged ones are made of.
 
-use crate::file::{Atom, Edge, Kind, PlanFile, ATOM, CLAUSE, EDGE, END, HEAD};
+use crate::file::{Atom, Edge, Kind, PlanFile, ATOM, CLAUSE, EDGE, END, HEAD, LONG_EDGE};
 use crate::random::Random;
 
 /// One record, with the value length that fits.
@@ -31,6 +31,10 @@ pub fn edge(from: usize, to: usize, variable: usize) -> Vec<u8> {
     record(EDGE, &fields(&[from, to, variable]))
 }
 
+pub fn long_edge(from: usize, to: usize, variable: usize, length: usize) -> Vec<u8> {
+    record(LONG_EDGE, &fields(&[from, to, variable, length]))
+}
+
 pub fn atom(kind: u8, from: usize, to: usize, bound: usize, variable: usize) -> Vec<u8> {
     let mut value = vec![kind];
     value.extend(fields(&[from, to, bound, variable]));
@@ -50,13 +54,17 @@ pub fn end() -> Vec<u8> {
 }
 
 fn edge_record(e: &Edge) -> Vec<u8> {
-    edge(e.from, e.to, e.variable)
+    match e.stated_length {
+        None => edge(e.from, e.to, e.variable),
+        Some(length) => long_edge(e.from, e.to, e.variable, length),
+    }
 }
 
 fn atom_record(a: &Atom) -> Vec<u8> {
     match a.kind {
         Kind::Reaches => atom(1, a.from, a.to, 0, a.variable),
         Kind::Within(bound) => atom(2, a.from, a.to, bound, a.variable),
+        Kind::LengthAtMost(bound) => atom(3, a.from, a.to, bound, a.variable),
     }
 }
 

@@ -1,6 +1,6 @@
 //! Plans by trying every assignment.
 
-use super::walks;
+use super::walks::Walks;
 use crate::file::{Edge, PlanFile};
 
 /// All assignments, off before on, the lowest variable counting most.
@@ -15,9 +15,8 @@ pub fn assignments(variables: usize) -> impl Iterator<Item = Vec<i8>> {
 
 pub fn atom_is_right(plan: &PlanFile, values: &[i8], number: usize) -> bool {
     let is_on = |edge: &Edge| values[edge.variable - 1] == 1;
-    let powers = walks::powers(&walks::step(plan.nodes, &plan.edges, &is_on));
     let atom = &plan.atoms[number - 1];
-    walks::truth(&powers, atom) == (values[atom.variable - 1] == 1)
+    Walks::of(plan, is_on).truth(atom) == (values[atom.variable - 1] == 1)
 }
 
 pub fn clause_is_true(values: &[i8], clause: &[i16]) -> bool {

@@ -63,6 +63,7 @@ fn length_allowed(tag: u8, length: usize) -> bool {
         1 => length == 4,
         2 => length == 6,
         3 => length == 9,
+        6 => length == 8,
         4 => length & 1 == 0,
         5 => length == 0,
         _ => true,
@@ -74,9 +75,15 @@ fn in_range(tag: u8, value: &[u8], nodes: usize, variables: usize) -> bool {
     let numbers = numbers(tag, value);
     match tag {
         1 => 0 < numbers[0] && numbers[0] <= 64 && 0 < numbers[1] && numbers[1] <= 512,
-        2 => numbers[0] < nodes && numbers[1] < nodes && 0 < numbers[2] && numbers[2] <= variables,
+        2 | 6 => {
+            numbers[0] < nodes
+                && numbers[1] < nodes
+                && 0 < numbers[2]
+                && numbers[2] <= variables
+                && numbers.get(3) != Some(&0)
+        }
         3 => {
-            let bounds = [None, Some(0), Some(255)];
+            let bounds = [None, Some(0), Some(255), Some(65_535)];
             let bound = bounds.get(usize::from(value[0])).copied().flatten();
             bound.is_some_and(|most| numbers[2] <= most)
                 && numbers[0] < nodes
@@ -106,7 +113,7 @@ fn wrongs(pieces: &[(usize, Piece)]) -> Vec<u32> {
     if before.is_empty() != (tag == 1) {
         wrongs.push(3);
     }
-    if tag == 0 || tag > 5 {
+    if tag == 0 || tag > 6 {
         wrongs.push(4);
     }
     if !length_allowed(tag, value.len()) {
@@ -120,35 +127,40 @@ fn wrongs(pieces: &[(usize, Piece)]) -> Vec<u32> {
 
 /// 6, 7 and 8, for a record whose tag and length are good.
 fn wrong_contents(tag: u8, value: &[u8], before: &[(usize, Piece)]) -> Vec<u32> {
-    let of_tag = |wanted: u8| {
+    let of_tags = |wanted: &'static [u8]| {
         before.iter().filter_map(move |(_, piece)| match *piece {
-            Piece::Record(tag, value) if tag == wanted => Some(numbers(tag, value)),
+            Piece::Record(tag, value) if wanted.contains(&tag) => Some(numbers(tag, value)),
             _ => None,
         })
     };
-    let head = of_tag(1).next().unwrap_or(vec![0, 0]);
+    let head = of_tags(&[1]).next().unwrap_or(vec![0, 0]);
     let mut wrongs = Vec::new();
     if !in_range(tag, value, head[0], head[1]) {
         wrongs.push(6);
     }
-    let most = [0, 1, 256, 64, 1_024, 1][usize::from(tag)];
-    let literals: usize = of_tag(4).map(|literals| literals.len()).sum();
-    if of_tag(tag).count() >= most || tag == 4 && literals + value.len() / 2 > 4_096 {
+    let (alike, most): (&[u8], usize) = match tag {
+        1 => (&[1], 1),
+        2 | 6 => (EDGE_TAGS, 256),
+        3 => (&[3], 64),
+        4 => (&[4], 1_024),
+        _ => (&[5], 1),
+    };
+    let literals: usize = of_tags(&[4]).map(|literals| literals.len()).sum();
+    if of_tags(alike).count() >= most || tag == 4 && literals + value.len() / 2 > 4_096 {
         wrongs.push(7);
     }
-    let last = |numbers: Vec<usize>| numbers[numbers.len() - 1];
-    let mine = last(if value.is_empty() {
-        vec![0]
-    } else {
-        numbers(tag, value)
-    });
-    if tag == 2 && of_tag(3).any(|atom| last(atom) == mine)
-        || tag == 3 && of_tag(2).any(|edge| last(edge) == mine)
+    let shares = |other: Vec<usize>, place: usize, mine: usize| other[place] == mine;
+    let numbers = numbers(tag, value);
+    if EDGE_TAGS.contains(&tag) && of_tags(&[3]).any(|atom| shares(atom, 3, numbers[2]))
+        || tag == 3 && of_tags(EDGE_TAGS).any(|edge| shares(edge, 2, numbers[3]))
     {
         wrongs.push(8);
     }
     wrongs
 }
+
+/// Edges of both tags count together.
+const EDGE_TAGS: &[u8] = &[2, 6];
 
 pub fn read(bytes: &[u8]) -> Result<Counts, Refusal> {
     if bytes.len() >= 16_385 {
@@ -182,7 +194,8 @@ fn counts(pieces: &[(usize, Piece)]) -> Counts {
                 counts[4] += 1;
                 counts[5] += value.len() / 2;
             }
-            Piece::Record(tag @ (2 | 3), _) => counts[usize::from(tag)] += 1,
+            Piece::Record(2 | 6, _) => counts[2] += 1,
+            Piece::Record(3, _) => counts[3] += 1,
             _ => (),
         }
     }

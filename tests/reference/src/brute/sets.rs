@@ -4,7 +4,7 @@
 //! A set is a mask: bit 2(v - 1) is "v on", the bit above it "v off". A set
 //! may hold both signs; the set of all literals always obeys.
 
-use super::walks;
+use super::walks::Walks;
 use crate::file::{Edge, PlanFile};
 
 /// The sets of more variables would be too many to list.
@@ -63,13 +63,11 @@ fn obeys_clause(set: Set, clause: &[i16]) -> bool {
 }
 
 fn obeys_atoms(plan: &PlanFile, set: Set) -> bool {
-    let under = |edge: &Edge| set & on(edge.variable) != 0;
-    let over = |edge: &Edge| set & off(edge.variable) == 0;
-    let under = walks::powers(&walks::step(plan.nodes, &plan.edges, &under));
-    let over = walks::powers(&walks::step(plan.nodes, &plan.edges, &over));
+    let under = Walks::of(plan, |edge: &Edge| set & on(edge.variable) != 0);
+    let over = Walks::of(plan, |edge: &Edge| set & off(edge.variable) == 0);
     plan.atoms.iter().all(|atom| {
-        (!walks::truth(&under, atom) || set & on(atom.variable) != 0)
-            && (walks::truth(&over, atom) || set & off(atom.variable) != 0)
+        (!under.truth(atom) || set & on(atom.variable) != 0)
+            && (over.truth(atom) || set & off(atom.variable) != 0)
     })
 }
 

@@ -2,9 +2,10 @@
 
 use super::process::Programs;
 use super::{count, Settings, Tally};
+use crate::file::{read, Kind};
 use crate::generate::requests::Subject;
 use crate::protocol::{
-    line, stream, Request, BAD_REQUEST, MOST_FILE_BYTES, MOST_ROOM, READ_DIMACS,
+    line, stream, Request, BAD_REQUEST, MOST_FILE_BYTES, MOST_ROOM, READ_DIMACS, REASON,
 };
 use crate::random::Random;
 
@@ -14,12 +15,16 @@ const BATCH: usize = 500;
 pub struct Compared {
     pub files: usize,
     pub with_empty_clause: usize,
+    pub with_long_edge: usize,
+    pub about_lengths: usize,
     pub calls: usize,
     pub sorts: Tally,
     pub by_call: Tally,
     pub answers: Tally,
     /// The answers of `read_dimacs` alone.
     pub texts: Tally,
+    /// The answers of `reason`, by the atom's kind.
+    pub reasons: Tally,
 }
 
 /// Every file has its own part of the seed and its share of the calls.
@@ -35,6 +40,8 @@ pub fn compare(settings: &Settings, programs: &Programs) -> Result<Compared, Str
         );
         compared.files += 1;
         compared.with_empty_clause += usize::from(subject.has_empty_clause());
+        compared.with_long_edge += usize::from(subject.has_long_edge());
+        compared.about_lengths += usize::from(subject.first_about_lengths().is_some());
         batch.extend(subject.requests(share(settings, number), &mut random));
         if batch.len() >= BATCH || number + 1 == settings.files {
             // Every batch ends in a bad request, of one sort or another.
@@ -74,6 +81,20 @@ fn tally(compared: &mut Compared, batch: &[Request], lines: &[String]) {
         if request.call == READ_DIMACS {
             count(&mut compared.texts, &name);
         }
+        if request.call == REASON && !name.starts_with("refused") {
+            let name = format!("kind {} {name}", kind_asked_for(request));
+            count(&mut compared.reasons, &name);
+        }
+    }
+}
+
+/// The number of the kind of a reason's atom, for a request that is not refused.
+fn kind_asked_for(request: &Request) -> usize {
+    let atoms = read(&request.file).map_or(Vec::new(), |plan| plan.atoms);
+    match atoms[usize::from(request.atom) - 1].kind {
+        Kind::Reaches => 1,
+        Kind::Within(_) => 2,
+        Kind::LengthAtMost(_) => 3,
     }
 }
 

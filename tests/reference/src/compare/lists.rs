@@ -22,6 +22,9 @@ pub struct Checked {
     pub plans: usize,
     pub impossible: usize,
     pub with_empty_clause: usize,
+    pub with_long_edge: usize,
+    /// With an atom of kind 3, and so without written clauses.
+    pub refused: usize,
     pub stock: Option<String>,
 }
 
@@ -35,6 +38,11 @@ pub fn check(settings: &Settings, programs: &Programs) -> Result<Checked, String
         let requests: Vec<Request> = plans.iter().flat_map(|(_, two)| two.clone()).collect();
         let lines = batches::run(programs, &requests, &[])?;
         for (k, (plan, two)) in plans.iter().enumerate() {
+            if let Some(atom) = plan.first_about_lengths() {
+                expect_refused(&lines[2 * k + 1], atom)?;
+                checked.refused += 1;
+                continue;
+            }
             let answers = Answers::of(&lines[2 * k], &lines[2 * k + 1]);
             if let Err(message) = check_one(plan, &answers, stock.as_ref()) {
                 let shown = format!("{}\n{}\n", lines[2 * k], lines[2 * k + 1]);
@@ -47,13 +55,25 @@ pub fn check(settings: &Settings, programs: &Programs) -> Result<Checked, String
                 None => checked.impossible += 1,
             }
             checked.with_empty_clause += usize::from(plan.has_empty_clause());
+            checked.with_long_edge += usize::from(plan.has_long_edge());
         }
     }
     checked.stock = stock.map(|stock| stock.name);
     Ok(checked)
 }
 
-/// Accepted files with something to write, a decided search and a list that fits.
+/// `linkcalls` printed what the reference expects; this is what that has to be.
+fn expect_refused(line: &str, atom: usize) -> Result<(), String> {
+    if line.starts_with(&format!("refused 13 {atom} :")) {
+        return Ok(());
+    }
+    Err(format!(
+        "atom {atom} is of kind 3, and the answer is {line}\n"
+    ))
+}
+
+/// Accepted files with something to write, a decided search and a list that fits. An
+/// atom of kind 3 has no list, whatever the room.
 fn draw(seed: u64, number: &mut u64, wanted: usize) -> Vec<(PlanFile, [Request; 2])> {
     let mut drawn = Vec::new();
     while drawn.len() < wanted {
@@ -63,7 +83,10 @@ fn draw(seed: u64, number: &mut u64, wanted: usize) -> Vec<(PlanFile, [Request; 
         let Some((plan, searched)) = subject.decided() else {
             continue;
         };
-        let numbers = counts(plan).numbers;
+        let numbers = match plan.first_about_lengths() {
+            Some(_) => random.below(2_000),
+            None => counts(plan).numbers,
+        };
         if !plan.atoms.is_empty() && numbers <= MOST_ROOM {
             let search = Request {
                 call: SEARCH,

@@ -62,13 +62,16 @@ fn compare_calls(settings: &Settings, programs: &Programs) -> Result<(), String>
         calls.calls, calls.files
     );
     println!(
-        "  files: {}; {} with an empty clause",
+        "  files: {}; {} with an empty clause, {} with tag 6, {} with kind 3",
         listed(&calls.sorts),
-        calls.with_empty_clause
+        calls.with_empty_clause,
+        calls.with_long_edge,
+        calls.about_lengths
     );
     println!("  calls: {}", listed(&calls.by_call));
     println!("  answers: {}", listed(&calls.answers));
     println!("  answers of read_dimacs: {}", listed(&calls.texts));
+    println!("  answers of reason: {}", listed(&calls.reasons));
     Ok(())
 }
 
@@ -88,8 +91,8 @@ fn compare_programs(settings: &Settings, programs: &Programs) -> Result<(), Stri
 fn ask_solvers(settings: &Settings, programs: &Programs) -> Result<(), String> {
     let lists = lists::check(settings, programs)?;
     println!(
-        "written clauses: {} files with a plan, {} without ({} with an empty clause); search and own solver agree",
-        lists.plans, lists.impossible, lists.with_empty_clause
+        "written clauses: {} files with a plan, {} without ({} with an empty clause, {} with tag 6); search and own solver agree; {} with kind 3 refused",
+        lists.plans, lists.impossible, lists.with_empty_clause, lists.with_long_edge, lists.refused
     );
     match lists.stock {
         Some(name) => println!("stock solver: {name}, agrees on all of them"),
@@ -99,8 +102,8 @@ fn ask_solvers(settings: &Settings, programs: &Programs) -> Result<(), String> {
     match solved.stock.join(" and ").as_str() {
         "" => println!("linkdimacs into stock solvers: left out (none was found)"),
         names => println!(
-            "linkdimacs into {names}: {} files with a plan, {} without ({} with an empty clause); agrees with linkplan",
-            solved.plans, solved.impossible, solved.with_empty_clause
+            "linkdimacs into {names}: {} files with a plan, {} without ({} with an empty clause, {} with tag 6); agrees with linkplan; {} with kind 3 refused",
+            solved.plans, solved.impossible, solved.with_empty_clause, solved.with_long_edge, solved.refused
         ),
     }
     Ok(())

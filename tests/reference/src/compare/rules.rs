@@ -3,7 +3,7 @@
 use super::process::Programs;
 use super::{count, Settings, Tally};
 use crate::file::{read, PlanFile, FILE_BYTES};
-use crate::generate::{file, scattered, sort, texts};
+use crate::generate::{self, lengths, scattered, texts};
 use crate::programs::linkrules;
 use crate::random::Random;
 use crate::sample;
@@ -23,15 +23,18 @@ pub fn compare(settings: &Settings, programs: &Programs) -> Result<Tally, String
         let (file, text) = draw(&mut random);
         let expected = compare_one(programs, &file, &text)?;
         count(&mut answers, &sort_of(&expected));
-        compare_round_trip(programs, &scattered::small(&mut random))?;
+        let mut plan = scattered::small(&mut random);
+        if random.chance(30) {
+            lengths::put_into_edges(&mut plan, &mut random);
+        }
+        compare_round_trip(programs, &plan)?;
     }
     Ok(answers)
 }
 
 /// A refused file gets a text too, for some other file.
 fn draw(random: &mut Random) -> (Vec<u8>, Vec<u8>) {
-    let sort = sort(random);
-    let file = file(sort, random);
+    let (_, file) = generate::draw(random);
     let plan = read(&file).unwrap_or_else(|_| scattered::small(random));
     let text = texts::text(&plan, random);
     (file, text)

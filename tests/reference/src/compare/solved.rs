@@ -18,6 +18,9 @@ pub struct Solved {
     pub plans: usize,
     pub impossible: usize,
     pub with_empty_clause: usize,
+    pub with_long_edge: usize,
+    /// With an atom of kind 3, and so without a text.
+    pub refused: usize,
     /// The solvers that were there.
     pub stock: Vec<String>,
 }
@@ -33,6 +36,12 @@ pub fn check(settings: &Settings, programs: &Programs) -> Result<Solved, String>
             continue;
         };
         let file = &subject.file;
+        if let Some(atom) = subject.first_about_lengths() {
+            let line = format!("r 13 {atom}\n");
+            programs.expect("linkdimacs", &[], file, line.as_bytes())?;
+            solved.refused += 1;
+            continue;
+        }
         let text = programs.run("linkdimacs", file)?;
         let exists = says_plan(programs, file)?;
         for solver in &stock {
@@ -46,6 +55,7 @@ pub fn check(settings: &Settings, programs: &Programs) -> Result<Solved, String>
             false => solved.impossible += 1,
         }
         solved.with_empty_clause += usize::from(subject.has_empty_clause());
+        solved.with_long_edge += usize::from(subject.has_long_edge());
     }
     solved.stock = stock.into_iter().map(|solver| solver.name).collect();
     Ok(solved)
@@ -57,7 +67,8 @@ fn draw(seed: u64, number: u64) -> Option<Subject> {
     let mut random = Random::part(seed, PARTS + number);
     let subject = Subject::draw(&mut random);
     let (plan, _) = subject.decided()?;
-    let fits = !plan.atoms.is_empty() && counts(plan).numbers <= MOST_NUMBERS;
+    let refused = plan.first_about_lengths().is_some();
+    let fits = refused || !plan.atoms.is_empty() && counts(plan).numbers <= MOST_NUMBERS;
     fits.then_some(subject)
 }
 

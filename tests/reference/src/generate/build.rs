@@ -18,7 +18,36 @@ impl PlanFile {
     }
 
     pub fn edge_of(&mut self, from: usize, to: usize, variable: usize) {
-        self.edges.push(Edge { from, to, variable });
+        self.edges.push(Edge {
+            from,
+            to,
+            variable,
+            stated_length: None,
+        });
+    }
+
+    /// An edge with a length.
+    pub fn long_edge_of(&mut self, from: usize, to: usize, variable: usize, length: usize) {
+        self.edges.push(Edge {
+            from,
+            to,
+            variable,
+            stated_length: Some(length),
+        });
+    }
+
+    /// A one-way link of some length with a new variable.
+    pub fn long_edge(&mut self, from: usize, to: usize, length: usize) -> usize {
+        let variable = self.variable();
+        self.long_edge_of(from, to, variable, length);
+        variable
+    }
+
+    /// A two-way link, as long both ways.
+    pub fn long_link(&mut self, a: usize, b: usize, length: usize) -> usize {
+        let variable = self.long_edge(a, b, length);
+        self.long_edge_of(b, a, variable, length);
+        variable
     }
 
     /// A one-way link with a new variable.
@@ -58,6 +87,11 @@ impl PlanFile {
     /// "From is within so many hops of to", with a new variable.
     pub fn within(&mut self, from: usize, to: usize, bound: usize) -> usize {
         self.atom(Kind::Within(bound), from, to)
+    }
+
+    /// "The length from one to the other is at most so much", with a new variable.
+    pub fn length_at_most(&mut self, from: usize, to: usize, bound: usize) -> usize {
+        self.atom(Kind::LengthAtMost(bound), from, to)
     }
 
     pub fn one_of(&mut self, variables: &[usize]) {

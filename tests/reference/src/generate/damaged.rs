@@ -1,7 +1,7 @@
 //! Damaged files: a good file with one to three things done to it.
 
-use super::{metro, scattered};
-use crate::file::{ATOM, CLAUSE, EDGE};
+use super::{delays, lengths, metro, scattered};
+use crate::file::{ATOM, CLAUSE, EDGE, LONG_EDGE};
 use crate::random::Random;
 use crate::write;
 
@@ -26,6 +26,86 @@ pub fn damaged(random: &mut Random) -> Vec<u8> {
         damage_bytes(&mut bytes, random);
     }
     bytes
+}
+
+/// A file with lengths, something done to them, and at times something else too.
+pub fn with_lengths(random: &mut Random) -> Vec<u8> {
+    let plan = match random.below(3) {
+        0 => delays::delays(random),
+        _ => {
+            let mut plan = scattered::small(random);
+            lengths::put_in(&mut plan, random);
+            plan
+        }
+    };
+    let mut records = write::mixed_records(&plan, random);
+    let times = random.between(1, 2);
+    for _ in 0..times {
+        damage_lengths(&mut records, random);
+    }
+    if random.chance(25) {
+        damage_records(&mut records, random);
+    }
+    records.concat()
+}
+
+/// Damage to a record of tag 6, or to an atom's kind and bound.
+fn damage_lengths(records: &mut [Vec<u8>], random: &mut Random) {
+    let edges = of_tag(records, LONG_EDGE, 11);
+    let atoms = of_tag(records, ATOM, 12);
+    if !edges.is_empty() && random.chance(70) {
+        damage_long_edge(records, random.pick(&edges), random);
+    } else if !atoms.is_empty() {
+        let atom = &mut records[random.pick(&atoms)];
+        match random.below(3) {
+            0 => atom[3] = random.pick(&[0, 1, 2, 3, 4, 255]),
+            // A bound that only kind 3 may have, or no longer.
+            1 => set_field(atom, 8, random.pick(&[0, 1, 255, 256, 65_535])),
+            _ => {
+                atom[3] = random.pick(&[1, 2, 3]);
+                set_field(atom, 8, random.pick(&[0, 255, 256, 65_535]));
+            }
+        }
+    }
+}
+
+/// The fields of a record of tag 6 stand at 3, 5, 7 and 9.
+fn damage_long_edge(records: &mut [Vec<u8>], at: usize, random: &mut Random) {
+    let variable_of_an_atom = of_tag(records, ATOM, 12)
+        .first()
+        .map(|&atom| [records[atom][10], records[atom][11]]);
+    let edge = &mut records[at];
+    match random.below(12) {
+        0 | 1 => set_field(edge, 9, 0),
+        2 => set_field(edge, 9, random.pick(&[1, 255, 256, 65_535])),
+        // Another length of the value, which goes with it or not.
+        3..=5 => {
+            let length: u16 = random.pick(&[6, 7, 9, 10]);
+            edge[1..3].copy_from_slice(&length.to_be_bytes());
+            if random.chance(70) {
+                edge.resize(3 + usize::from(length), 0);
+            }
+        }
+        6 => edge[0] = random.pick(&[EDGE, EDGE, 5, 7]),
+        // What tag 2 would be.
+        7 => {
+            edge[..3].copy_from_slice(&[EDGE, 0, 6]);
+            edge.truncate(9);
+        }
+        8 => set_field(edge, 7, random.pick(&[0, 512, 513])),
+        9 => set_field(edge, random.pick(&[3, 5]), random.pick(&[63, 64, 256])),
+        _ => {
+            if let Some(variable) = variable_of_an_atom {
+                edge[7..9].copy_from_slice(&variable);
+            }
+        }
+    }
+}
+
+fn set_field(record: &mut [u8], place: usize, field: u16) {
+    if let Some(there) = record.get_mut(place..place + 2) {
+        there.copy_from_slice(&field.to_be_bytes());
+    }
 }
 
 /// Damage that knows where the bytes of a file stand, but not what they mean.

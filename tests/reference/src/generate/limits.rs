@@ -1,10 +1,10 @@
 //! Files at each limit and one past it, with random contents. Now and then the
 //! last record of its sort has another fault too, for the order of the two.
 
-use super::empty;
 use super::scattered::literal;
+use super::{empty, lengths};
 use crate::file::{
-    Kind, PlanFile, ATOMS, BOUND, CLAUSES, EDGES, FILE_BYTES, LITERALS, NODES, VARIABLES,
+    Kind, PlanFile, ATOMS, BOUND, CLAUSES, EDGES, FILE_BYTES, LENGTH, LITERALS, NODES, VARIABLES,
 };
 use crate::random::Random;
 use crate::write;
@@ -24,6 +24,54 @@ pub fn limit(random: &mut Random) -> Vec<u8> {
         8 => with_bound(BOUND + past, random),
         _ => with_bytes(FILE_BYTES + past, random),
     }
+}
+
+/// The limits that lengths have a part in: edges of both tags together, atoms, the ends
+/// of a length and of a bound.
+pub fn with_lengths(random: &mut Random) -> Vec<u8> {
+    let past = random.below(2);
+    match random.below(8) {
+        0..=3 => {
+            let mut plan = with_edges(EDGES + past, random);
+            lengths::put_in(&mut plan, random);
+            faulty(plan, random)
+        }
+        4 => {
+            let mut plan = with_atoms(ATOMS + past, random);
+            lengths::put_in(&mut plan, random);
+            faulty(plan, random)
+        }
+        5 => {
+            let mut plan = full(random);
+            lengths::put_in(&mut plan, random);
+            write::to_bytes(&plan)
+        }
+        6 => with_length(random.pick(&[0, 1, LENGTH]), random),
+        // As long as anything gets: 63 spans.
+        _ => write::to_bytes(&longest_row(random)),
+    }
+}
+
+/// An edge of a length, and a bound at either end of its range.
+fn with_length(length: usize, random: &mut Random) -> Vec<u8> {
+    let mut plan = PlanFile::with_nodes(random.between(2, 6));
+    let x = plan.long_edge(0, 1, length);
+    let a = plan.length_at_most(0, 1, random.pick(&[0, 1, LENGTH - 1, LENGTH]));
+    plan.one_of(&[x, a]);
+    write::to_bytes(&plan)
+}
+
+fn longest_row(random: &mut Random) -> PlanFile {
+    let mut plan = PlanFile::with_nodes(NODES);
+    for k in 1..NODES {
+        let x = plan.long_edge(k - 1, k, LENGTH);
+        plan.must(x);
+    }
+    for _ in 0..random.between(1, 4) {
+        let (from, to) = (random.pick(&[0, 61, 62]), NODES - 1);
+        plan.length_at_most(from, to, random.pick(&[0, LENGTH - 1, LENGTH, 65_473]));
+    }
+    plan
 }
 
 /// The bytes of a file, one time in four with a second fault: a field out of

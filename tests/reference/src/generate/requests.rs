@@ -1,7 +1,7 @@
 //! Requests about drawn files: all eight calls, with good and bad assignments,
 //! atoms, budgets, texts and rooms.
 
-use super::{file, sort, texts, Sort};
+use super::{draw, texts, Draw, Sort};
 use crate::clauses;
 use crate::dimacs;
 use crate::file::{read, PlanFile};
@@ -49,6 +49,13 @@ impl Known {
     }
 }
 
+/// What is left to be written out where atoms of kind 3 are in the way.
+fn without_lengths(plan: &PlanFile) -> PlanFile {
+    let mut plan = plan.clone();
+    plan.atoms.retain(|atom| !atom.kind.is_about_lengths());
+    plan
+}
+
 fn without_empty_clauses(plan: &PlanFile) -> PlanFile {
     let mut plan = plan.clone();
     plan.clauses.retain(|clause| !clause.is_empty());
@@ -58,14 +65,19 @@ fn without_empty_clauses(plan: &PlanFile) -> PlanFile {
 /// Branchings the reference can afford on a file: a closing costs a walk for each
 /// source and a look at each literal.
 pub fn affordable(plan: &PlanFile) -> u32 {
-    let cost = 20 + plan.literals() + plan.atoms.len() * (plan.nodes + plan.edges.len()) / 4;
+    let walks = plan.atoms.len() * (plan.nodes + plan.edges.len()) / 4;
+    let about_lengths = plan
+        .atoms
+        .iter()
+        .filter(|atom| atom.kind.is_about_lengths());
+    let cost = 20 + plan.literals() + walks + about_lengths.count() * plan.edges.len();
     (200_000 / cost).clamp(20, 3_000) as u32
 }
 
 impl Subject {
     pub fn draw(random: &mut Random) -> Subject {
-        let sort = sort(random);
-        Subject::of(sort, file(sort, random))
+        let (sort, file) = draw(random);
+        Subject::of(sort, file)
     }
 
     pub fn of(sort: Sort, file: Vec<u8>) -> Subject {
@@ -90,11 +102,22 @@ impl Subject {
             .is_some_and(|known| known.plan.has_empty_clause())
     }
 
+    pub fn has_long_edge(&self) -> bool {
+        self.plan
+            .as_ref()
+            .is_some_and(|known| known.plan.has_long_edge())
+    }
+
+    /// The number of the first atom of kind 3.
+    pub fn first_about_lengths(&self) -> Option<usize> {
+        self.plan.as_ref()?.plan.first_about_lengths()
+    }
+
     pub fn requests(&self, count: usize, random: &mut Random) -> Vec<Request> {
         (0..count).map(|_| self.request(random)).collect()
     }
 
-    /// A file without atoms is seldom asked for a reason.
+    /// A file without atoms is seldom asked for a reason, one with kind 3 more often.
     fn call(&self, random: &mut Random) -> u8 {
         let has_atoms = self
             .plan
@@ -105,6 +128,7 @@ impl Subject {
             1 | 2 => JUDGE,
             3..=5 => CLOSE,
             6..=8 if has_atoms || random.chance(10) => REASON,
+            9 if self.first_about_lengths().is_some() => REASON,
             12 | 13 => WRITE_CLAUSES,
             14 | 15 => WRITE_DIMACS,
             16.. => READ_DIMACS,
@@ -180,14 +204,16 @@ impl Known {
     }
 
     fn ask_write_clauses(&self, request: &mut Request, random: &mut Random) {
-        request.room = long_room(clauses::counts(&self.plan).numbers, random);
+        let plan = without_lengths(&self.plan);
+        request.room = long_room(clauses::counts(&plan).numbers, random);
     }
 
     fn ask_write_dimacs(&self, request: &mut Request, random: &mut Random) {
-        let numbers = clauses::counts(&self.plan).numbers;
+        let plan = without_lengths(&self.plan);
+        let numbers = clauses::counts(&plan).numbers;
         // A list too long for any room has a longer text.
         let needed = match numbers <= MOST_ROOM {
-            true => dimacs::print(&self.plan).len(),
+            true => dimacs::print(&plan).len(),
             false => numbers,
         };
         request.room = long_room(needed, random);
@@ -309,15 +335,14 @@ fn spoil(values: &mut Vec<i8>, bad: &[i8], random: &mut Random) {
     }
 }
 
-/// A stream's worth of requests about files of at most `largest` bytes.
-pub fn requests(seed: u64, count: usize, largest: usize) -> Vec<Request> {
+/// A stream's worth of requests about drawn files of at most `largest` bytes.
+pub fn requests(draw: Draw, seed: u64, count: usize, largest: usize) -> Vec<Request> {
     let mut requests = Vec::new();
     let mut part = 0;
     while requests.len() < count {
         let mut random = Random::part(seed, part);
         part += 1;
-        let sort = sort(&mut random);
-        let file = file(sort, &mut random);
+        let (sort, file) = draw(&mut random);
         if file.len() <= largest {
             let some = random.between(1, 4).min(count - requests.len());
             requests.extend(Subject::of(sort, file).requests(some, &mut random));

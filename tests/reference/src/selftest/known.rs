@@ -1,15 +1,20 @@
-//! What document 01 says of its sample and of small cases, number by number.
+//! What document 01 says of its sample and of small cases, and what request C-13 and
+//! its readings say of lengths, number by number.
 
 use crate::calls::{self, Answer};
 use crate::clauses;
 use crate::file::{read, Kind, PlanFile, Refusal};
 use crate::judge::Judgement;
-use crate::meaning::{atom_truth, Graph};
+use crate::meaning::{atom_truth, distances_over, Graph, Measure};
 use crate::programs;
 use crate::sample;
+use crate::write::to_bytes;
 
 pub fn check() {
     check_small_cases();
+    check_length_cases();
+    check_length_reasons();
+    check_unwritable();
     check_sample_cases();
     check_sample_runs();
     check_refusals();
@@ -37,6 +42,95 @@ fn check_small_cases() {
     });
     assert!(truth(&row, Kind::Within(3), 0, 3));
     assert!(!truth(&row, Kind::Within(2), 0, 3));
+}
+
+/// Two hops round the lake, of 600 each, and four downtown, of 100 each.
+fn lake() -> PlanFile {
+    let mut lake = PlanFile::with_nodes(6);
+    lake.long_edge(0, 1, 600);
+    lake.long_edge(1, 5, 600);
+    for (from, to) in [(0, 2), (2, 3), (3, 4), (4, 5)] {
+        lake.long_edge(from, to, 100);
+    }
+    lake
+}
+
+fn check_length_cases() {
+    let lake = lake();
+    for (bound, expected) in [(400, true), (399, false), (1_200, true), (65_535, true)] {
+        assert_eq!(truth(&lake, Kind::LengthAtMost(bound), 0, 5), expected);
+    }
+    // An edge of tag 6 is one hop.
+    assert!(truth(&lake, Kind::Within(2), 0, 5));
+    assert!(!truth(&lake, Kind::Within(1), 0, 5));
+    assert!(truth(&lake, Kind::Reaches, 0, 5));
+    // From a node to itself, and where there is no path.
+    assert!(truth(&lake, Kind::LengthAtMost(0), 3, 3));
+    assert!(!truth(&lake, Kind::LengthAtMost(65_535), 5, 0));
+    assert!(!truth(&lake, Kind::LengthAtMost(0), 5, 0));
+    // Tag 2 means length 1.
+    let mut row = PlanFile::with_nodes(3);
+    row.edge(0, 1);
+    row.edge(1, 2);
+    assert!(truth(&row, Kind::LengthAtMost(2), 0, 2));
+    assert!(!truth(&row, Kind::LengthAtMost(1), 0, 2));
+    // 63 spans of 65,535: no sum is cut at 16 bits.
+    let mut longest = PlanFile::with_nodes(64);
+    (0..63).for_each(|k| {
+        longest.long_edge(k, k + 1, 65_535);
+    });
+    let lengths = distances_over(Measure::Lengths, 64, &longest.edges, 0);
+    assert_eq!(lengths[63], Some(4_128_705));
+    assert!(truth(&longest, Kind::LengthAtMost(65_535), 0, 1));
+    assert!(!truth(&longest, Kind::LengthAtMost(65_534), 0, 1));
+    for target in 2..64 {
+        assert!(!truth(&longest, Kind::LengthAtMost(65_535), 0, target));
+    }
+}
+
+/// Two ways of the same length: the smallest edge number at each step back. And a cut
+/// with an edge on either side of each comparison.
+fn check_length_reasons() {
+    let mut ties = PlanFile::with_nodes(4);
+    ties.long_edge(2, 3, 2);
+    ties.long_edge(1, 3, 3);
+    ties.long_edge(0, 2, 3);
+    ties.long_edge(0, 1, 2);
+    let atom = ties.length_at_most(0, 3, 5) as i16;
+    let mut out = [77; 4];
+    assert_eq!(
+        calls::reason(&to_bytes(&ties), &[1, 1, 1, 1, 0], 1, &mut out),
+        Answer::Holds(3)
+    );
+    assert_eq!(out, [atom, -1, -3, 77]);
+    // The direct edge would bring 6 where 5 is the bound, the way over 1 brings 5 and more.
+    let mut cut = PlanFile::with_nodes(3);
+    cut.long_edge(0, 1, 2);
+    cut.long_edge(1, 2, 3);
+    cut.long_edge(1, 2, 9);
+    cut.long_edge(0, 2, 11);
+    cut.length_at_most(0, 2, 5);
+    let mut out = [77; 4];
+    assert_eq!(
+        calls::reason(&to_bytes(&cut), &[0, -1, 0, -1, 0], 1, &mut out),
+        Answer::Fails(2)
+    );
+    assert_eq!(out, [-5, 2, 77, 77]);
+}
+
+fn check_unwritable() {
+    let mut plan = lake();
+    plan.within(0, 5, 3);
+    plan.length_at_most(0, 5, 400);
+    plan.length_at_most(0, 5, 399);
+    let file = to_bytes(&plan);
+    assert_eq!(calls::write_clauses(&file, &mut []), refused(13, 2));
+    assert_eq!(
+        calls::write_dimacs(&file, &mut [77; 20_000]),
+        refused(13, 2)
+    );
+    assert_eq!(programs::linkcnf(&file), "r 13 2\n");
+    assert_eq!(programs::linkdimacs(&file), "r 13 2\n");
 }
 
 /// P5 to P10.

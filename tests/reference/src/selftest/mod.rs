@@ -7,12 +7,13 @@ mod solver;
 
 use crate::brute;
 use crate::brute::sets::{self, Obeying};
+use crate::calls::{self, Answer};
 use crate::clauses;
 use crate::close::close;
-use crate::file::{read, PlanFile};
-use crate::generate::{self, damaged, limits, scattered, Sort, SORTS};
+use crate::file::{read, PlanFile, Refusal};
+use crate::generate::{self, damaged, delays, lengths, limits, scattered, Sort, SORTS};
 use crate::judge::{judge, Judgement};
-use crate::meaning::{verdict, Verdict};
+use crate::meaning::{distances_over, verdict, Measure, Verdict};
 use crate::random::Random;
 use crate::reason::{reason, Reason};
 use crate::sat;
@@ -30,6 +31,7 @@ pub fn run(seed: u64, files: usize) -> String {
         let mut random = Random::part(seed, number);
         check_reading(&mut random);
         check_small(&mut random);
+        check_lengths(&mut random);
         rules::check(&mut random);
         solver::check(&mut random);
         if number % 4 == 0 {
@@ -47,6 +49,10 @@ fn check_reading(random: &mut Random) {
         check_read(&generate::file(sort, random));
     }
     check_read(&damaged::damaged(random));
+    check_read(&damaged::with_lengths(random));
+    if random.chance(10) {
+        check_read(&limits::with_lengths(random));
+    }
 }
 
 fn check_read(file: &[u8]) {
@@ -74,18 +80,73 @@ fn check_round_trip(plan: &PlanFile, random: &mut Random) {
 }
 
 fn check_small(random: &mut Random) {
-    let plan = scattered::tiny(random);
+    let mut plan = scattered::tiny(random);
+    if random.chance(40) {
+        lengths::put_in(&mut plan, random);
+    }
     check_round_trip(&plan, random);
     let obeying = Obeying::of(&plan);
     check_judging(&plan);
     check_search(&plan, &obeying);
-    check_clauses(&plan);
+    match plan.first_about_lengths() {
+        None => check_clauses(&plan),
+        Some(atom) => check_unwritable(&plan, atom),
+    }
     for _ in 0..12 {
         let values: Vec<i8> = (0..plan.variables)
             .map(|_| random.pick(&[-1, 0, 0, 1]))
             .collect();
         check_closing(&plan, &obeying, &values);
         check_reasons(&plan, &values);
+    }
+}
+
+/// All distances of a file that is made for lengths, and judging where there are many
+/// more nodes and edges than brute force can try assignments of.
+fn check_lengths(random: &mut Random) {
+    let plan = delays::delays(random);
+    check_round_trip(&plan, random);
+    let values: Vec<i8> = (0..plan.variables)
+        .map(|_| random.pick(&[1, 1, 1, -1]))
+        .collect();
+    let is_on = |edge: &crate::file::Edge| values[edge.variable - 1] == 1;
+    let walks = brute::walks::Walks::of(&plan, is_on);
+    let lit = plan.edges.iter().copied().filter(is_on).collect();
+    for source in 0..plan.nodes {
+        let hops = distances_over(Measure::Hops, plan.nodes, &lit, source);
+        let lengths = distances_over(Measure::Lengths, plan.nodes, &lit, source);
+        for target in 0..plan.nodes {
+            assert_eq!(hops[target], walks.hops(source, target), "{plan:?}");
+            let length = lengths[target].map(|length| length as u64);
+            assert_eq!(length, walks.length(source, target), "{plan:?}");
+        }
+    }
+    let clause = |c: &Vec<i16>| !brute::plans::clause_is_true(&values, c);
+    let wrong = |k: &usize| !brute::plans::atom_is_right(&plan, &values, *k);
+    let expected = match plan.clauses.iter().position(clause) {
+        Some(k) => Judgement::Clause(k + 1),
+        None => {
+            let atom = (1..=plan.atoms.len()).find(wrong);
+            atom.map_or(Judgement::Plan, Judgement::Atom)
+        }
+    };
+    assert_eq!(judge(&plan, &values), expected, "judging in {plan:?}");
+}
+
+/// Refused with 13 whatever the room, and the room stays as it was.
+fn check_unwritable(plan: &PlanFile, atom: usize) {
+    let file = write::to_bytes(plan);
+    let refused = Answer::Refused(Refusal {
+        number: 13,
+        value: atom,
+    });
+    for room in [0, 1, 5_000] {
+        let mut list = vec![77; room];
+        assert_eq!(calls::write_clauses(&file, &mut list), refused, "{plan:?}");
+        let mut text = vec![77; room];
+        assert_eq!(calls::write_dimacs(&file, &mut text), refused, "{plan:?}");
+        assert!(list.iter().all(|&place| place == 77));
+        assert!(text.iter().all(|&place| place == 77));
     }
 }
 

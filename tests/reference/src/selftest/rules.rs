@@ -6,7 +6,7 @@ use crate::calls::{self, Answer};
 use crate::clauses;
 use crate::dimacs;
 use crate::file::{read, PlanFile, Refusal};
-use crate::generate::{limits, scattered, texts};
+use crate::generate::{lengths, limits, scattered, texts};
 use crate::programs::{linkdimacs, linkrules};
 use crate::random::Random;
 use crate::sample;
@@ -48,17 +48,23 @@ fn check_known_rules(file: &[u8]) {
 }
 
 pub fn check(random: &mut Random) {
-    let plan = match random.below(40) {
+    let mut plan = match random.below(40) {
         0 => limits::full(random),
         1..=4 => scattered::medium(random),
         _ => scattered::small(random),
     };
+    // Rules are put into a file about lengths too, and records of tag 6 stay.
+    let written = plan.clone();
+    if random.chance(30) {
+        lengths::put_in(&mut plan, random);
+    }
     for _ in 0..2 {
         check_reading(&plan, &texts::text(&plan, random), random);
     }
     // A full file's list is too long to be printed and read so often.
     if plan.edges.len() < 100 {
-        check_printing(&plan);
+        check_printing(&written);
+        check_same_text(&written, random);
     }
 }
 
@@ -87,6 +93,17 @@ fn check_putting_in(plan: &PlanFile, clauses: Vec<Vec<i16>>, text: &[u8], random
     let mut expected = plan.clone();
     expected.clauses.extend(clauses);
     assert_eq!(read(&linkrules(&file, text)), Ok(expected));
+}
+
+/// Lengths have no part in the clauses of kinds 1 and 2: an edge of either tag is one hop.
+fn check_same_text(plan: &PlanFile, random: &mut Random) {
+    let mut long = plan.clone();
+    lengths::put_into_edges(&mut long, random);
+    assert_eq!(
+        linkdimacs(&write::to_bytes(&long)),
+        dimacs::print(plan),
+        "{plan:?}"
+    );
 }
 
 /// A printed text reads back as the written-out list, and each block stands behind

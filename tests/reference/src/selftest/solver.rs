@@ -43,12 +43,12 @@ const MOST_NUMBERS: usize = 20_000;
 
 /// The solver and the search agree on files with rings, protection and hop limits.
 pub fn check_written(random: &mut Random) {
-    let sort = random.pick(&[Sort::Metro, Sort::Tight, Sort::Medium]);
+    let sort = random.pick(&[Sort::Metro, Sort::Tight, Sort::Medium, Sort::Delays]);
     let subject = Subject::of(sort, file(sort, random));
     let Some((plan, searched)) = subject.decided() else {
         return;
     };
-    if clauses::counts(plan).numbers > MOST_NUMBERS {
+    if plan.first_about_lengths().is_some() || clauses::counts(plan).numbers > MOST_NUMBERS {
         return;
     }
     let list = clauses::write(plan);

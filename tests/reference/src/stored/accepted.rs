@@ -2,13 +2,14 @@
 
 use super::{around, Cases};
 use crate::sample;
-use crate::write::{atom, clause, edge, end, head};
+use crate::write::{atom, clause, edge, end, head, long_edge};
 
 pub fn add(cases: &mut Cases) {
     add_small(cases);
     add_limits(cases);
     add_freedoms(cases);
     add_empty_clauses(cases);
+    add_lengths(cases);
 }
 
 fn add_small(cases: &mut Cases) {
@@ -212,6 +213,104 @@ fn add_empty_clauses(cases: &mut Cases) {
         around(records.map(Vec::as_slice).concat()),
     );
     add_empty_clauses_at_limits(cases);
+}
+
+/// Edges with a length and atoms of kind 3 (request C-13).
+fn add_lengths(cases: &mut Cases) {
+    for (length, name) in [
+        (1, "length-1"),
+        (256, "length-256"),
+        (65_535, "length-65535"),
+    ] {
+        cases.accepted(
+            [3, 5, 1, 0, 0, 0],
+            name,
+            &format!("an edge of length {length}"),
+            around(long_edge(0, 1, 1, length)),
+        );
+    }
+    for (bound, name) in [
+        (0, "kind-3-bound-0"),
+        (256, "kind-3-bound-256"),
+        (65_535, "kind-3-bound-65535"),
+    ] {
+        cases.accepted(
+            [3, 5, 0, 1, 0, 0],
+            name,
+            &format!("length at most {bound}"),
+            around(atom(3, 0, 1, bound, 4)),
+        );
+    }
+    let records = [
+        long_edge(0, 1, 1, 7),
+        atom(3, 0, 2, 9, 4),
+        edge(1, 2, 2),
+        clause(&[4]),
+        long_edge(1, 2, 2, 3),
+        atom(2, 0, 2, 2, 5),
+    ];
+    cases.accepted(
+        [3, 5, 3, 2, 1, 1],
+        "both-tags-any-order",
+        "edges of both tags, atoms of kinds 2 and 3 and a clause mixed",
+        around(records.concat()),
+    );
+    let links = [
+        long_edge(0, 1, 1, 5),
+        long_edge(1, 0, 1, 6),
+        long_edge(1, 1, 1, 7),
+    ];
+    cases.accepted(
+        [3, 5, 3, 0, 0, 0],
+        "long-edges-share",
+        "a link of two lengths and a self edge, one variable",
+        around(links.concat()),
+    );
+    add_lengths_at_limits(cases);
+}
+
+fn add_lengths_at_limits(cases: &mut Cases) {
+    let with = |records: Vec<u8>| [head(2, 1), records, end()].concat();
+    let both = [edge(0, 1, 1), long_edge(0, 1, 1, 9)].concat();
+    cases.accepted(
+        [2, 1, 256, 0, 0, 0],
+        "256-edges-both-tags",
+        "256 edges, half of them with a length",
+        with(both.repeat(128)),
+    );
+    cases.accepted(
+        [2, 1, 256, 0, 0, 0],
+        "256-long-edges",
+        "256 edges with a length",
+        with(long_edge(0, 1, 1, 65_535).repeat(256)),
+    );
+    cases.accepted(
+        [2, 1, 0, 64, 0, 0],
+        "64-length-atoms",
+        "64 atoms of kind 3",
+        with(atom(3, 0, 1, 65_535, 1).repeat(64)),
+    );
+    cases.accepted(
+        [64, 512, 256, 64, 1_024, 4_096],
+        "all-limits-with-lengths",
+        "every limit reached at once, with lengths, 14,858 bytes",
+        all_limits_with_lengths(),
+    );
+}
+
+/// As `all_limits`, but every edge has a length and every atom asks for one.
+fn all_limits_with_lengths() -> Vec<u8> {
+    let mut file = head(64, 512);
+    (0..256).for_each(|k| {
+        file.extend(long_edge(k % 64, (k + 1 + k / 64) % 64, k + 1, 65_535 - k));
+    });
+    (0..64).for_each(|k| file.extend(atom(3, k, (k + 32) % 64, 1_000 * k, 257 + k)));
+    (0..1_024).for_each(|k: i16| {
+        file.extend(clause(&[1 + k % 512, -1 - (k + 1) % 512, -512, 512]));
+    });
+    file.extend(end());
+    assert_eq!(file.len(), 14_858);
+    file
 }
 
 fn add_empty_clauses_at_limits(cases: &mut Cases) {

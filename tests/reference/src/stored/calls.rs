@@ -2,16 +2,19 @@
 
 use super::answered::Answered;
 use super::ask::{close, judge, read, reason, search, write_clauses};
-use super::{empty, texts};
+use super::{empty, lengths, texts};
 use crate::file::{Kind, PlanFile};
 use crate::generate::requests::requests as drawn;
-use crate::protocol::Request;
+use crate::generate::{draw_with_lengths, draw_without_lengths};
+use crate::protocol::{Request, READ_DIMACS};
 use crate::sample;
 use crate::write::to_bytes;
 use std::io::Result;
 
 const SEED: u64 = 2;
 const DRAWN: usize = 600;
+/// About files with lengths, texts among them, which are left out.
+const DRAWN_WITH_LENGTHS: usize = 65;
 /// Longer files and texts would make the stored stream large and say nothing new.
 const LARGEST: usize = 700;
 
@@ -19,6 +22,7 @@ const LARGEST: usize = 700;
 fn answered() -> Vec<Answered> {
     let mut answered = texts::answered();
     answered.extend(empty::answered());
+    answered.extend(lengths::answered());
     answered
 }
 
@@ -35,7 +39,10 @@ pub fn requests() -> Result<Vec<Request>> {
     requests.extend(hop_cases());
     requests.extend(refused_file());
     requests.extend(answered().into_iter().map(|one| one.request));
-    let mut some = drawn(SEED, DRAWN, LARGEST);
+    let mut some = drawn(draw_without_lengths, SEED, DRAWN, LARGEST);
+    let mut lengths = drawn(draw_with_lengths, SEED, DRAWN_WITH_LENGTHS, LARGEST);
+    lengths.retain(|request| request.call != READ_DIMACS);
+    some.extend(lengths);
     some.retain(|request| request.assignment.len() <= LARGEST);
     requests.extend(some);
     Ok(requests)

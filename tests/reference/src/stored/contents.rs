@@ -1,15 +1,18 @@
 //! Files for refusals 6 to 8, with one thing wrong: what a record says.
 
 use super::{around, Cases, SECOND};
-use crate::write::{atom, clause, edge, end, head};
+use crate::write::{atom, clause, edge, end, head, long_edge};
 
 pub fn add(cases: &mut Cases) {
     add_head_out_of_range(cases);
     add_edge_out_of_range(cases);
+    add_long_edge_out_of_range(cases);
     add_atom_out_of_range(cases);
     add_literal_out_of_range(cases);
     add_too_many(cases);
+    add_too_many_with_lengths(cases);
     add_edge_and_atom(cases);
+    add_long_edge_and_atom(cases);
 }
 
 fn add_head_out_of_range(cases: &mut Cases) {
@@ -62,10 +65,45 @@ fn add_edge_out_of_range(cases: &mut Cases) {
     );
 }
 
+fn add_long_edge_out_of_range(cases: &mut Cases) {
+    let edges = [
+        (3, 0, 1, 9, "long-edge-from-3", "from node 3 of 3"),
+        (0, 3, 1, 9, "long-edge-to-3", "to node 3 of 3"),
+        (0, 1, 0, 9, "long-edge-variable-0", "variable 0"),
+        (0, 1, 6, 9, "long-edge-variable-6", "variable 6 of 5"),
+        (0, 1, 1, 0, "length-0", "length 0"),
+        (
+            2,
+            2,
+            5,
+            0,
+            "length-0-self",
+            "length 0, from a node to itself",
+        ),
+    ];
+    for (from, to, variable, length, name, what) in edges {
+        cases.refused(
+            6,
+            SECOND,
+            name,
+            &format!("an edge with a length: {what}"),
+            around(long_edge(from, to, variable, length)),
+        );
+    }
+    let late = [edge(0, 1, 1), long_edge(0, 1, 1, 1), long_edge(0, 1, 1, 0)].concat();
+    cases.refused(
+        6,
+        SECOND + 9 + 11,
+        "length-0-third",
+        "the third edge has length 0",
+        around(late),
+    );
+}
+
 fn add_atom_out_of_range(cases: &mut Cases) {
     let atoms = [
         (0, 0, 1, 0, 4, "atom-kind-0", "an atom of kind 0"),
-        (3, 0, 1, 0, 4, "atom-kind-3", "an atom of kind 3"),
+        (4, 0, 1, 0, 4, "atom-kind-4", "an atom of kind 4"),
         (255, 0, 1, 0, 4, "atom-kind-255", "an atom of kind 255"),
         (1, 3, 1, 0, 4, "atom-from-3", "an atom from node 3 of 3"),
         (2, 0, 3, 1, 4, "atom-to-3", "an atom to node 3 of 3"),
@@ -81,6 +119,60 @@ fn add_atom_out_of_range(cases: &mut Cases) {
         ),
         (2, 0, 1, 256, 4, "within-bound-256", "within 256"),
         (2, 0, 1, 65_535, 4, "within-bound-65535", "within 65,535"),
+        (
+            1,
+            0,
+            1,
+            65_535,
+            4,
+            "reaches-bound-65535",
+            "reaches with bound 65,535",
+        ),
+        (
+            4,
+            0,
+            1,
+            65_535,
+            4,
+            "atom-kind-4-65535",
+            "an atom of kind 4 with bound 65,535",
+        ),
+        (
+            3,
+            3,
+            1,
+            9,
+            4,
+            "length-from-3",
+            "length at most, from node 3 of 3",
+        ),
+        (
+            3,
+            0,
+            3,
+            9,
+            4,
+            "length-to-3",
+            "length at most, to node 3 of 3",
+        ),
+        (
+            3,
+            0,
+            1,
+            9,
+            0,
+            "length-variable-0",
+            "length at most, variable 0",
+        ),
+        (
+            3,
+            0,
+            1,
+            65_535,
+            6,
+            "length-variable-6",
+            "length at most, variable 6 of 5",
+        ),
         (1, 0, 1, 0, 0, "atom-variable-0", "an atom with variable 0"),
         (
             2,
@@ -222,6 +314,93 @@ fn add_too_many_with_empty(cases: &mut Cases) {
         &one,
         "4097-literals-around-empty",
         "4,096 literals, an empty clause and one more literal",
+    );
+}
+
+/// Edges of both tags share one limit, whichever the last one is.
+fn add_too_many_with_lengths(cases: &mut Cases) {
+    let (short, long) = (edge(0, 1, 1), long_edge(0, 1, 1, 9));
+    let both = [short.clone(), long.clone()].concat().repeat(128);
+    let mut refused = |before: Vec<u8>, last: &[u8], name: &str, what: &str| {
+        let file = [&head(2, 1), &before, last, &end()].concat();
+        cases.refused(7, SECOND + before.len(), name, what, file);
+    };
+    refused(
+        both.clone(),
+        &long,
+        "257-edges-long-last",
+        "256 edges of both tags and one of tag 6",
+    );
+    refused(
+        both,
+        &short,
+        "257-edges-short-last",
+        "256 edges of both tags and one of tag 2",
+    );
+    refused(
+        long.repeat(256),
+        &long,
+        "257-long-edges",
+        "257 edges with a length",
+    );
+    refused(
+        long.repeat(256),
+        &short,
+        "257-edges-but-one-long",
+        "256 edges with a length and one without",
+    );
+    refused(
+        short.repeat(256),
+        &long,
+        "257-edges-one-long",
+        "256 edges without a length and one with",
+    );
+    let atoms = atom(3, 0, 1, 65_535, 1).repeat(64);
+    refused(
+        atoms,
+        &atom(3, 0, 1, 0, 1),
+        "65-length-atoms",
+        "65 atoms of kind 3",
+    );
+}
+
+fn add_long_edge_and_atom(cases: &mut Cases) {
+    let (long, about) = (long_edge(0, 1, 1, 9), atom(3, 0, 1, 9, 1));
+    let file = |records: &[&[u8]]| [&head(2, 9), &records.concat()[..], &end()].concat();
+    cases.refused(
+        8,
+        SECOND + 11,
+        "long-edge-then-atom",
+        "an atom with the variable of an edge with a length",
+        file(&[&long, &atom(1, 0, 1, 0, 1)]),
+    );
+    cases.refused(
+        8,
+        SECOND + 12,
+        "atom-then-long-edge",
+        "an edge with a length and an atom's variable",
+        file(&[&atom(1, 0, 1, 0, 1), &long]),
+    );
+    cases.refused(
+        8,
+        SECOND + 9,
+        "edge-then-length-atom",
+        "an atom of kind 3 with an edge's variable",
+        file(&[&edge(0, 1, 1), &about]),
+    );
+    cases.refused(
+        8,
+        SECOND + 12,
+        "length-atom-then-long-edge",
+        "an edge with a length and the variable of an atom of kind 3",
+        file(&[&about, &long]),
+    );
+    // Its length is the atom's variable, and its variable is not.
+    cases.accepted(
+        [2, 9, 1, 1, 0, 0],
+        "length-as-a-variable",
+        "an edge's length is an atom's variable",
+        file(&[&long_edge(0, 1, 1, 9), &atom(3, 0, 1, 1, 9)]),
     );
 }
 

@@ -8,6 +8,7 @@ mod ask;
 pub mod calls;
 mod contents;
 mod empty;
+mod lengths;
 mod order;
 mod refused;
 mod texts;

@@ -1,11 +1,12 @@
 //! Files with two things wrong, for the order in which they are met.
 
 use super::{Cases, SECOND};
-use crate::file::{CLAUSE, EDGE, END, HEAD};
-use crate::write::{atom, clause, edge, end, head, record, record_of_length};
+use crate::file::{CLAUSE, EDGE, END, HEAD, LONG_EDGE};
+use crate::write::{atom, clause, edge, end, head, long_edge, record, record_of_length};
 
 pub fn add(cases: &mut Cases) {
     add_within_a_record(cases);
+    add_within_a_long_edge(cases);
     add_limits_before_sharing(cases);
     add_record_by_record(cases);
 }
@@ -16,7 +17,7 @@ fn add_within_a_record(cases: &mut Cases) {
     cases.refused(2, 0, "before-3-first", "an unknown first tag, cut", file);
     let file = second(record_of_length(HEAD, 4, &[0, 3]));
     cases.refused(2, SECOND, "before-3-second", "a second head, cut", file);
-    let file = second(record_of_length(6, 4, &[0]));
+    let file = second(record_of_length(7, 4, &[0]));
     cases.refused(2, SECOND, "before-4", "an unknown tag, cut", file);
     let file = second(record_of_length(EDGE, 7, &[0; 6]));
     cases.refused(
@@ -46,7 +47,7 @@ fn add_within_a_record(cases: &mut Cases) {
     cases.refused(3, 0, "before-5-first", "an edge of length 5 first", file);
     let file = second([head(0, 0), end()].concat());
     cases.refused(3, SECOND, "before-6", "a second head out of range", file);
-    let file = second([record(6, &[0; 5]), end()].concat());
+    let file = second([record(7, &[0; 5]), end()].concat());
     cases.refused(
         4,
         SECOND,
@@ -85,6 +86,60 @@ fn add_within_a_record(cases: &mut Cases) {
         "end-last",
         "an end record of length 2, the file's last bytes",
         file,
+    );
+}
+
+fn add_within_a_long_edge(cases: &mut Cases) {
+    let second = |record: Vec<u8>| [head(3, 5), record].concat();
+    let file = second(record_of_length(LONG_EDGE, 4, &[0]));
+    cases.refused(
+        2,
+        SECOND,
+        "before-5-long-edge",
+        "tag 6 of length 4 with one byte",
+        file,
+    );
+    let file = second([record(LONG_EDGE, &[0; 5]), end()].concat());
+    cases.refused(5, SECOND, "before-6-tag-6", "tag 6 with five zeros", file);
+    let file = second([record(LONG_EDGE, &[255; 6]), end()].concat());
+    cases.refused(
+        5,
+        SECOND,
+        "before-6-long-edge",
+        "tag 6 with the length of tag 2, out of range",
+        file,
+    );
+    let shared = [atom(3, 0, 1, 9, 1), long_edge(0, 1, 1, 0)].concat();
+    cases.refused(
+        6,
+        SECOND + 12,
+        "before-8-long-edge",
+        "an edge of length 0 with an atom's variable",
+        second([shared, end()].concat()),
+    );
+    let before = [long_edge(0, 1, 1, 9).repeat(256), atom(3, 0, 1, 9, 2)].concat();
+    let offset = SECOND + before.len();
+    let with = |last: Vec<u8>| [head(2, 2), before.clone(), last, end()].concat();
+    cases.refused(
+        5,
+        offset,
+        "before-7-long-edge",
+        "a 257th edge, of tag 6 and seven bytes",
+        with(record(LONG_EDGE, &[0; 7])),
+    );
+    cases.refused(
+        6,
+        offset,
+        "before-7-long-edge",
+        "a 257th edge of length 0",
+        with(long_edge(0, 1, 1, 0)),
+    );
+    cases.refused(
+        7,
+        offset,
+        "before-8-long-edge",
+        "a 257th edge, with a length and an atom's variable",
+        with(long_edge(0, 1, 2, 9)),
     );
 }
 
@@ -181,12 +236,20 @@ fn add_record_by_record(cases: &mut Cases) {
         "a shared variable, then a byte behind the end",
         file,
     );
-    let file = [head(2, 2), edge(0, 1, 3), record(6, &[]), end()].concat();
+    let file = [head(2, 2), edge(0, 1, 3), record(7, &[]), end()].concat();
     cases.refused(
         6,
         SECOND,
         "before-a-later-4",
         "a variable out of range, then an unknown tag",
+        file,
+    );
+    let file = [head(2, 2), edge(0, 1, 3), record(LONG_EDGE, &[]), end()].concat();
+    cases.refused(
+        6,
+        SECOND,
+        "before-a-later-5",
+        "a variable out of range, then tag 6 without a value",
         file,
     );
     let file = [head(2, 2), end(), vec![HEAD; 3]].concat();

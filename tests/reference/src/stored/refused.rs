@@ -1,9 +1,9 @@
 //! Files for refusals 1 to 5, with one thing wrong: length, place and shape of records.
 
 use super::{around, Cases, SECOND};
-use crate::file::{CLAUSE, EDGE, END, HEAD};
+use crate::file::{CLAUSE, EDGE, END, HEAD, LONG_EDGE};
 use crate::sample;
-use crate::write::{atom, clause, edge, end, head, record, record_of_length};
+use crate::write::{atom, clause, edge, end, head, long_edge, record, record_of_length};
 
 pub fn add(cases: &mut Cases) {
     add_too_long(cases);
@@ -87,6 +87,14 @@ fn add_no_room(cases: &mut Cases) {
     );
     let cut = [head(3, 5), edge(0, 1, 1)[..8].to_vec()].concat();
     cases.refused(2, SECOND, "edge-cut", "an edge cut by one byte", cut);
+    let cut = [head(3, 5), long_edge(0, 1, 1, 9)[..10].to_vec()].concat();
+    cases.refused(
+        2,
+        SECOND,
+        "long-edge-cut",
+        "an edge with a length cut by one byte",
+        cut,
+    );
     let cut = [head(3, 5), atom(1, 0, 1, 0, 4)[..4].to_vec()].concat();
     cases.refused(2, SECOND, "atom-cut", "an atom cut behind its kind", cut);
     let cut = [head(3, 5), clause(&[1, 2])[..6].to_vec()].concat();
@@ -161,7 +169,21 @@ fn add_wrong_place(cases: &mut Cases) {
         0,
         "first-unknown",
         "an unknown tag first",
-        [record(6, &[]), behind].concat(),
+        [record(7, &[]), behind.clone()].concat(),
+    );
+    cases.refused(
+        3,
+        0,
+        "first-tag-6",
+        "tag 6 without a value first",
+        [record(LONG_EDGE, &[]), behind].concat(),
+    );
+    cases.refused(
+        3,
+        0,
+        "first-long-edge",
+        "an edge with a length first",
+        [long_edge(0, 1, 1, 9), head(3, 5), end()].concat(),
     );
     cases.refused(3, 0, "first-zeros", "three zeros", vec![0, 0, 0]);
     cases.refused(3, 0, "first-255", "tag 255 first", vec![255, 0, 0]);
@@ -201,6 +223,13 @@ fn add_wrong_place(cases: &mut Cases) {
     cases.refused(
         3,
         71,
+        "long-edge-behind",
+        "an edge with a length behind the end record",
+        behind(&long_edge(0, 1, 1, 9)),
+    );
+    cases.refused(
+        3,
+        71,
         "empty-clause-behind",
         "an empty clause behind the end record",
         behind(&clause(&[])),
@@ -216,7 +245,7 @@ fn add_wrong_place(cases: &mut Cases) {
 }
 
 fn add_unknown_tag(cases: &mut Cases) {
-    for tag in [0, 6, 7, 128, 255] {
+    for tag in [0, 7, 128, 255] {
         let file = around(record(tag, &[0; 4]));
         cases.refused(
             4,
@@ -229,9 +258,16 @@ fn add_unknown_tag(cases: &mut Cases) {
     cases.refused(
         4,
         SECOND,
-        "tag-6-empty",
+        "tag-7-empty",
         "an unknown tag without a value",
-        around(record(6, &[])),
+        around(record(7, &[])),
+    );
+    cases.refused(
+        4,
+        SECOND,
+        "tag-7-8",
+        "tag 7 with the fields of an edge with a length",
+        around(record(7, &long_edge(0, 1, 1, 9)[3..])),
     );
     let late = [
         head(3, 5),
@@ -272,6 +308,33 @@ fn add_wrong_length(cases: &mut Cases) {
             file,
         );
     }
+    for length in [0, 4, 6, 7, 9, 10] {
+        let value = [0, 0, 0, 1, 0, 1, 0, 9, 0, 0];
+        let file = around(record(LONG_EDGE, &value[..length]));
+        cases.refused(
+            5,
+            SECOND,
+            &format!("long-edge-{length}"),
+            "an edge with a length, of a wrong length",
+            file,
+        );
+    }
+    // These two were unknown tags before request C-13.
+    cases.refused(
+        5,
+        SECOND,
+        "tag-6",
+        "tag 6 with four zeros",
+        around(record(LONG_EDGE, &[0; 4])),
+    );
+    let late = [long_edge(0, 1, 1, 9), record(LONG_EDGE, &[0; 7])].concat();
+    cases.refused(
+        5,
+        SECOND + 11,
+        "long-edge-late",
+        "a second edge with a length, of seven bytes",
+        around(late),
+    );
     for length in [0, 1, 8, 10] {
         let value = [1, 0, 0, 0, 1, 0, 0, 0, 4, 0];
         let file = around(record(3, &value[..length]));
@@ -316,7 +379,7 @@ fn add_behind_empty_clause(cases: &mut Cases) {
         "an empty clause cut to two bytes",
         cut,
     );
-    let wrongs: [(u32, &str, &str, Vec<u8>); 6] = [
+    let wrongs: [(u32, &str, &str, Vec<u8>); 7] = [
         (2, "nothing", "no end record", Vec::new()),
         (
             2,
@@ -326,7 +389,8 @@ fn add_behind_empty_clause(cases: &mut Cases) {
         ),
         (2, "value", "a literal's two bytes", vec![0, 1, END, 0, 0]),
         (3, "head", "a second head", head(3, 5)),
-        (4, "tag-6", "an unknown tag", record(6, &[])),
+        (4, "tag-7", "an unknown tag", record(7, &[])),
+        (5, "tag-6", "tag 6 without a value", record(LONG_EDGE, &[])),
         (5, "odd", "a clause of one byte", record(CLAUSE, &[1])),
     ];
     for (number, name, what, bytes) in wrongs {
