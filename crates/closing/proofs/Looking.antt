@@ -224,7 +224,7 @@ sweep-one Q {es} {bs} b v₀ v w count at d a r l h k t x φ f =
 -- distances by the neighbours in the graph that settles the verdict, for an atom that counts hops
 pub settles-by : {es bs : List ℕ} (b : Bool) (v : List ℤ) (side : Side) (sets : List ℕ) (A : Atom) (source : ℕ) (d : List ℕ) → ((kind : Kind) → side ≡ settling kind b) → measureOf (A .kind) ≡ Hops
     → Inside (edgesOf es) → Neighbours (edgesOf es) (graphOf side (trueIn v)) sets → Walked sets source d → source ≡ A .from → (φ : PlanFile) → HasTables es bs v φ → Settling (φ .edges) v A b d
-settles-by {es} b v side sets A source d e m i n w q φ f = rw (f .edges, ← q, ← e (A .kind), m) (w (edgesOf es) (graphOf side (trueIn v)) i n)
+settles-by {es} b v side sets A source d e m i n w q φ f = rw (f .edges, ← q, ← e (A .kind), m) (w .table (edgesOf es) (graphOf side (trueIn v)) i n)
 
 -- both verdicts, one behind the other
 pub looks-both : (Q : ℕ → Type 0) {es bs : List ℕ} (u v w : List ℤ) (a r : Step) → Looked Q es bs true u v a → Looked Q es bs false v w r → LookedBoth Q es bs u w (andThen a r)

@@ -152,7 +152,8 @@ fn look_for(
     let sets = walk::neighbours(edges, values, plan::settling_side(holds));
     let first = plan::atom_at(atoms, at);
     let mut source = first.from;
-    let mut distances = walk::walk(&sets, plan::wide(source));
+    let mut distances = walk::blank();
+    walk::walk(&sets, plan::wide(source), &mut distances);
     let mut step = Step::Still;
     while at < count {
         let atom = plan::atom_at(atoms, at);
@@ -166,7 +167,7 @@ fn look_for(
                 continue;
             }
             source = atom.from;
-            distances = walk::walk(&sets, plan::wide(source));
+            walk::walk(&sets, plan::wide(source), &mut distances);
         }
         let told = look_at(atom, &distances, holds, values);
         match told {

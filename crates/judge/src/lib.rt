@@ -94,16 +94,16 @@ fn is_right(atom: Atom, truth: bool, assignment: &[i8]) -> bool
     !truth
 }
 
-// The distances from the node `next`, where those from `source` are known.
-fn distances_from(neighbours: &[u64; 64], known: Distances, source: usize, next: usize) -> Distances
+// Walks from the node `next`, where the distances from `source` are known.
+fn walk_on(neighbours: &[u64; 64], source: usize, next: usize, distances: &mut Distances)
     requires { ⌜ next < 64 ⌝ }
-    requires { ⌜ Walked (now neighbours) source known ⌝ }
-    ensures { λ r. ⌜ Walked (now (neighbours .entry)) next r ⌝ }
+    requires { ⌜ Walked (now neighbours) source (now distances) ⌝ }
+    ensures { λ _. ⌜ Walked (now (neighbours .entry)) next (now (distances .exit)) ⌝ }
 {
     if next == source {
-        return known;
+        return;
     }
-    walk::walk(neighbours, next)
+    walk::walk(neighbours, next, distances);
 }
 
 // The first of `count` atoms whose variable is wrong.
@@ -120,13 +120,14 @@ fn first_wrong(edges: &[u16], atoms: &[u16], count: usize, assignment: &[i8]) ->
     let long = walk::true_by_length(edges, atoms, assignment, Side::Under, lengths);
     let neighbours = walk::neighbours(edges, assignment, Side::Under);
     let mut source = 0;
-    let mut distances = walk::walk(&neighbours, source);
+    let mut distances = walk::blank();
+    walk::walk(&neighbours, source, &mut distances);
     let mut number = 0;
     while number < count {
         let atom = plan::atom_at(atoms, number);
         if !walk::has(lengths, number) {
             let from = plan::wide(atom.from);
-            distances = distances_from(&neighbours, distances, source, from);
+            walk_on(&neighbours, source, from, &mut distances);
             source = from;
         }
         let truth = truth_of(atom, number, lengths, long, &distances);

@@ -18,6 +18,7 @@ use plan::Side;
 use search::Found;
 use std::num::wrapping_add_u64;
 use walk::Chains;
+use walk::Distances;
 
 // Room for the written clauses.
 const ROOM: usize = 500000;
@@ -137,18 +138,30 @@ fn following(node: usize, plan: Plan) -> usize
     }
 }
 
+// What a sum counts for a node: its distance, and 0 for one that is not reached.
+fn counted(distances: &Distances, node: usize) -> u64
+    requires { ⌜ node < 64 ⌝ }
+{
+    if walk::is_reached(distances, node) {
+        walk::distance(distances, node)
+    } else {
+        0
+    }
+}
+
 // Walks from each node in turn, in the over graph of all open, whose sets are filled once.
 pub fn walk(plan: Plan, edges: &[u16], atoms: &[u16], clauses: &[i16], repetitions: u32) -> u64
     requires { ⌜ Lent plan (now edges) (now atoms) (now clauses) ⌝ }
 {
     let sets = sets_of(plan, edges, atoms, clauses);
+    let mut distances = walk::blank();
     let mut sum = 0u64;
     let mut source = 0;
     let mut left = repetitions;
     while left > 0 {
-        let distances = walk::walk(&sets, source);
+        walk::walk(&sets, source, &mut distances);
         source = following(source, plan);
-        sum = wrapping_add_u64(sum, walk::distance(&distances, source));
+        sum = wrapping_add_u64(sum, counted(&distances, source));
         left -= 1;
     }
     sum
@@ -197,13 +210,14 @@ pub fn length_walk(
     requires { ⌜ Lent plan (now edges) (now atoms) (now clauses) ⌝ }
 {
     let chains = chains_of(plan, edges, atoms, clauses);
+    let mut distances = walk::blank();
     let mut sum = 0u64;
     let mut source = 0;
     let mut left = repetitions;
     while left > 0 {
-        let distances = walk::length_walk(edges, &chains, source);
+        walk::length_walk(edges, &chains, source, &mut distances);
         source = following(source, plan);
-        sum = wrapping_add_u64(sum, walk::distance(&distances, source));
+        sum = wrapping_add_u64(sum, counted(&distances, source));
         left -= 1;
     }
     sum

@@ -8,16 +8,17 @@ use Prim.Native.Nat.{ℕ, zero, suc, _+_, _-_, _^_, _<_, _≤_}
 use native.Mathlib.Decide.{decLt}
 use native.Mathlib.Omega.{arith}
 use lib.Bits.{bitAnd, bitOr, or-lt}
-use lib.ListN.{length, getD, set, replicate}
+use lib.ListN.{length, getD, set, replicate, length-set}
+use lib.Seq.{getD-set-same}
 use lib.Arith.{lt-one}
 use lib.Pow.{pow-lt}
 use lib.Dec.{T}
 use Rattle.plan.specs.Meaning.{Edge, Graph, Leads, Walk, stay, hop, oneHop}
 use Rattle.plan.proofs.Bools.{T?, or-cases, or-left, or-right}
 use Rattle.plan.proofs.Walks.{its-in}
-use Rattle.walk.specs.Walking.{bit, Inside, Neighbours, DistanceTable}
+use Rattle.walk.specs.Walking.{bit, Inside, Neighbours, DistanceTable, Room}
 use Rattle.walk.specs.Front.{size, Visited, Laid}
-use Rattle.walk.proofs.Sets.{zeros, bit-inside, bit-one, bit-or, bit-and-not, and-not-lt, size-or, size-one, size-le}
+use Rattle.walk.proofs.Sets.{bit-inside, bit-one, bit-or, bit-and-not, and-not-lt, size-or, size-one, size-le}
 use Rattle.walk.proofs.Reach.{laid-table}
 
 -- A walk from s over the sets of neighbours.
@@ -39,7 +40,7 @@ pub record Bfs (sets : List ℕ) (s reached : ℕ) (counts queue : List ℕ) (ta
       → T (bit w reached) × (getD counts w 0 ≤ suc (getD counts (getD queue i 0) 0))
   pub many : tail ≡ size reached
   pub fits : reached < 2 ^ 64
-  pub numbered : length counts ≡ 66
+  pub numbered : Room counts
   pub places : length queue ≡ 64
 
 pub tail-le : {sets : List ℕ} {s reached : ℕ} {counts queue : List ℕ} {tail head : ℕ} → Bfs sets s reached counts queue tail head → tail ≤ 64
@@ -55,20 +56,20 @@ module _ {sets : List ℕ} {s reached : ℕ} {counts queue : List ℕ} {tail hea
 
 -- ---- where the walk begins
 
-pub begin : (sets : List ℕ) (s reached : ℕ) → s < 64 → reached ≡ 2 ^ s → Bfs sets s reached (replicate 66 0) (set (replicate 64 0) 0 s) 1 0
-begin sets s reached l e = record {
+pub begin : (sets : List ℕ) (s reached : ℕ) (d : List ℕ) → s < 64 → Room d → reached ≡ 2 ^ s → Bfs sets s reached (set d s 0) (set (replicate 64 0) 0 s) 1 0
+begin sets s reached d l room e = record {
   source = there;
-  begins = zeros 66 s;
-  sound = λ w t. subst₂ (λ (x k : ℕ). Trail sets s x k) (sym (only w t)) (sym (zeros 66 w)) start;
+  begins = none s refl;
+  sound = λ w t. subst₂ (λ (x k : ℕ). Trail sets s x k) (sym (only w t)) (sym (none w (only w t))) start;
   queued = λ w t. (0, omega arith, sym (only w t));
   seen = λ i m. rw (lt-one m) there;
-  low = λ i m. omega (arith, zeros 66 (getD (set (replicate 64 0) 0 s) i 0));
-  rising = λ i k a b. omega (arith, zeros 66 (getD (set (replicate 64 0) 0 s) i 0));
-  near = λ _ w t. omega (arith, zeros 66 w);
+  low = λ i m. omega (arith, none _ (first i m));
+  rising = λ i k a b. omega (arith, none _ (first i (omega arith)));
+  near = λ _ w t. omega (arith, none w (only w t));
   closed = λ i w m l t. absurd (omega arith);
   many = omega (arith, ap size e, size-one 64 s l);
   fits = omega (arith, e, pow-lt l);
-  numbered = refl;
+  numbered = length-set d s 0 ∙ room;
   places = refl;
 }
   where
@@ -77,6 +78,12 @@ begin sets s reached l e = record {
 
     only : (w : ℕ) → T (bit w reached) → w ≡ s
     only w t = bit-one w s .0 (subst (λ (x : ℕ). T (bit w x)) e t)
+
+    first : (i : ℕ) → i < 1 → getD (set (replicate 64 0) 0 s) i 0 ≡ s
+    first i m = rw (lt-one m) refl
+
+    none : (w : ℕ) → w ≡ s → getD (set d s 0) w 0 ≡ 0
+    none w q = rw q (getD-set-same d s 0 0 (omega (arith, room)))
 
 -- ---- one turn: the neighbours of the node at the head that are not reached yet are visited
 

@@ -6,7 +6,8 @@ use mathlib.Core.List.{List}
 use Prim.Native.Nat.{ℕ, suc, _+_, _*_, _-_, _^_, _<_, _≤_}
 use native.Mathlib.Omega.{arith}
 use lib.Bits.{bitAnd, bitOr, or-lt}
-use lib.ListN.{length, getD, replicate}
+use lib.ListN.{length, getD, set, length-set}
+use lib.Seq.{getD-set-same}
 use lib.Pow.{pow-lt}
 use lib.Dec.{T}
 use Rattle.plan.specs.Meaning.{Edge, Graph, Leads, edge, Walk, stay, hop, ownLength, noEdge}
@@ -14,10 +15,10 @@ use Rattle.plan.specs.Ranged.{maxLength}
 use Rattle.plan.specs.Tables.{edgesOf}
 use Rattle.plan.proofs.Bools.{T?, T-same}
 use Rattle.plan.proofs.Tables.{edges-at, edges-most}
-use Rattle.walk.specs.Walking.{bit, DistanceTable}
+use Rattle.walk.specs.Walking.{bit, DistanceTable, Room}
 use Rattle.walk.specs.Front.{size, Laid}
 use Rattle.walk.specs.Nearest.{Nearest, Relaxed}
-use Rattle.walk.proofs.Sets.{zeros, bit-empty, bit-inside, bit-one, bit-without, bits-same, more-old, more-which, size-or, size-one}
+use Rattle.walk.proofs.Sets.{bit-empty, bit-inside, bit-one, bit-without, bits-same, more-old, more-which, size-or, size-one}
 use Rattle.walk.proofs.Reach.{laid-table}
 
 -- an edge's length, in a table of so small numbers
@@ -35,23 +36,29 @@ pub record Dijkstra (es : List Edge) (g : Graph) (s known done : ℕ) (d : List 
   pub low : (w : ℕ) → T (bit w known) → getD d w 0 ≤ size done * maxLength
   pub known-fits : known < 2 ^ 64
   pub done-fits : done < 2 ^ 64
-  pub long : length d ≡ 66
+  pub long : Room d
 
 -- ---- where the walk begins
 
-pub begin : (es : List Edge) (g : Graph) (s known : ℕ) → s < 64 → known ≡ 2 ^ s → Dijkstra es g s known 0 (replicate 66 0)
-begin es g s known l e = record {
+pub begin : (es : List Edge) (g : Graph) (s known : ℕ) (d : List ℕ) → s < 64 → Room d → known ≡ 2 ^ s → Dijkstra es g s known 0 (set d s 0)
+begin es g s known d l room e = record {
   part = λ w t. absurd (bit-empty w t);
   source = subst (λ (x : ℕ). T (bit s x)) (sym e) (bit-one s s .1 refl);
-  begins = zeros 66 s;
-  sound = λ w t. subst₂ (λ (x k : ℕ). Walk ownLength es g s x k) (sym (bit-one w s .0 (subst (λ (x : ℕ). T (bit w x)) e t))) (sym (zeros 66 w)) stay;
+  begins = none s refl;
+  sound = λ w t. subst₂ (λ (x k : ℕ). Walk ownLength es g s x k) (sym (only w t)) (sym (none w (only w t))) stay;
   closed = λ u w t. absurd (bit-empty u t);
   near = λ u w t. absurd (bit-empty u t);
-  low = λ w t. omega (arith, zeros 66 w);
+  low = λ w t. omega (arith, none w (only w t));
   known-fits = omega (arith, e, pow-lt l);
   done-fits = omega arith;
-  long = refl;
+  long = length-set d s 0 ∙ room;
 }
+  where
+    only : (w : ℕ) → T (bit w known) → w ≡ s
+    only w t = bit-one w s .0 (subst (λ (x : ℕ). T (bit w x)) e t)
+
+    none : (w : ℕ) → w ≡ s → getD (set d s 0) w 0 ≡ 0
+    none w q = rw q (getD-set-same d s 0 0 (omega (arith, room)))
 
 module _ {es : List Edge} {g : Graph} {s known done : ℕ} {d : List ℕ} (v : Dijkstra es g s known done d) where
   -- while not all known nodes are done, there is one to take

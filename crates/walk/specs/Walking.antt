@@ -61,12 +61,18 @@ distanceIn d w = getD d w 0
 pub record DistanceTable (c : Cost) (es : List Edge) (g : Graph) (s : ℕ) (d : List ℕ) : Type 0 where
   pub number : (w k : ℕ) → (T (reachedIn d w) × (distanceIn d w ≡ k)) ↔ Distance c es g s w k
 
--- What the functions promise, of whatever graph the sets and tables are.
-abbrev pub Walked : List ℕ → ℕ → List ℕ → Type 0
-Walked sets s r = (es : List Edge) (g : Graph) → Inside es → Neighbours es g sets → DistanceTable oneHop es g s r
+-- A table that a walk is written into has all its places.
+abbrev pub Room : List ℕ → Type 0
+Room d = length d ≡ 66
 
-abbrev pub LengthWalked : List Edge → List ℕ → ℕ → List ℕ → Type 0
-LengthWalked es t s r = (g : Graph) → Chained es g t → DistanceTable ownLength es g s r
+-- What the functions promise, of whatever graph the sets and tables are. The table can be walked into again.
+pub record Walked (sets : List ℕ) (s : ℕ) (d : List ℕ) : Type 0 where
+  pub table : (es : List Edge) (g : Graph) → Inside es → Neighbours es g sets → DistanceTable oneHop es g s d
+  pub room : Room d
+
+pub record LengthWalked (es : List Edge) (t : List ℕ) (s : ℕ) (d : List ℕ) : Type 0 where
+  pub table : (g : Graph) → Chained es g t → DistanceTable ownLength es g s d
+  pub room : Room d
 
 abbrev pub Truth : Atom → List ℕ → Bool → Type 0
 Truth A d r = (es : List Edge) (g : Graph) → DistanceTable (costOf (A .kind)) es g (A .from) d → T r ↔ IsTrue es g A

@@ -8,9 +8,10 @@ ghost use Rattle.plan.specs.Tables.{edgesOf, atomsOf};
 ghost use mathlib.Core.Logic.{_↔_};
 ghost use lib.Dec.{T};
 ghost use Rattle.plan.specs.declared.Measure.the-variants.{Lengths};
-ghost use Rattle.walk.specs.Walking.{Inside, Placed, Chained, Chains, LengthWalked, Those, LengthAtoms, TrueBy, CountLengths};
+ghost use Rattle.walk.specs.Walking.{Inside, Placed, Chained, Chains, Room, LengthWalked, Those, LengthAtoms, TrueBy, CountLengths};
 ghost use Rattle.walk.specs.Nearest.{ChainedFrom, Nearest, isBetter, lowered, Relaxes};
 use crate::Distances;
+use crate::blank;
 use crate::has;
 use crate::is_present;
 use crate::is_true;
@@ -67,7 +68,7 @@ pub fn chains(edges: &[u16], values: &[i8], side: Side) -> Chains
 // The nearest node of a set, which has one.
 fn nearest(set: u64, distances: &Distances) -> usize
     requires { ⌜ (set ≡ 0 → ⊥) ⌝ }
-    requires { ⌜ length (now distances) ≡ 66 ⌝ }
+    requires { ⌜ Room (now distances) ⌝ }
     ensures { λ r. ⌜ Nearest set (now (distances .entry)) r ⌝ }
 {
     let mut node = u64::trailing_zeros(set) as usize;
@@ -87,7 +88,7 @@ fn nearest(set: u64, distances: &Distances) -> usize
 // Whether a node is reached for the first time, or in less than before.
 fn is_better(known: u64, node: usize, distance: u32, distances: &Distances) -> bool
     requires { ⌜ node < 64 ⌝ }
-    requires { ⌜ length (now distances) ≡ 66 ⌝ }
+    requires { ⌜ Room (now distances) ⌝ }
     ensures { λ r. ⌜ r ≡ isBetter known (now (distances .entry)) node distance ⌝ }
 {
     if !has(known, node) {
@@ -100,7 +101,7 @@ fn is_better(known: u64, node: usize, distance: u32, distances: &Distances) -> b
 fn lower(edge: Edge, near: u32, known: u64, distances: &mut Distances)
     requires { ⌜ edge .to < 64 ⌝ }
     requires { ⌜ near ≤ 64 * maxLength ⌝ }
-    requires { ⌜ length (now distances) ≡ 66 ⌝ }
+    requires { ⌜ Room (now distances) ⌝ }
     ensures { λ _. ⌜ now (distances .exit) ≡ lowered known (edge .to) (near + edge .length) (now (distances .entry)) ⌝ }
 {
     let to = wide(edge.to);
@@ -114,7 +115,7 @@ fn lower(edge: Edge, near: u32, known: u64, distances: &mut Distances)
 fn relax(edges: &[u16], chains: &Chains, node: usize, known: u64, distances: &mut Distances) -> u64
     requires { ⌜ Chains (edgesOf (now edges)) (now chains) ⌝ }
     requires { ⌜ node < 64 ⌝ }
-    requires { ⌜ length (now distances) ≡ 66 ⌝ }
+    requires { ⌜ Room (now distances) ⌝ }
     requires { ⌜ getD (now distances) node 0 ≤ 64 * maxLength ⌝ }
     ensures { λ r. ⌜ Relaxes (edgesOf (now (edges .entry))) (now (chains .entry)) node known (now (distances .entry)) r (now (distances .exit)) ⌝ }
 {
@@ -133,21 +134,21 @@ fn relax(edges: &[u16], chains: &Chains, node: usize, known: u64, distances: &mu
 
 // The distances by length from `source` to every node. The nearest node that is known and not done is taken next: no way over another can be
 // shorter.
-pub fn length_walk(edges: &[u16], chains: &Chains, source: usize) -> Distances
+pub fn length_walk(edges: &[u16], chains: &Chains, source: usize, distances: &mut Distances)
     requires { ⌜ Chains (edgesOf (now edges)) (now chains) ⌝ }
     requires { ⌜ source < 64 ⌝ }
-    ensures { λ r. ⌜ LengthWalked (edgesOf (now (edges .entry))) (now (chains .entry)) source r ⌝ }
+    requires { ⌜ Room (now distances) ⌝ }
+    ensures { λ _. ⌜ LengthWalked (edgesOf (now (edges .entry))) (now (chains .entry)) source (now (distances .exit)) ⌝ }
 {
-    let mut distances: Distances = [0; 66];
+    distances[source] = 0;
     let mut known = 1u64 << source;
     let mut done = 0u64;
     while done != known {
-        let node = nearest(known & !done, &distances);
-        known = relax(edges, chains, node, known, &mut distances);
+        let node = nearest(known & !done, distances);
+        known = relax(edges, chains, node, known, distances);
         done = done | (1u64 << node);
     }
-    put_reached(known, &mut distances);
-    distances
+    put_reached(known, distances);
 }
 
 // Of a set of atoms, those that start at a node.
@@ -199,12 +200,13 @@ pub fn true_by_length(edges: &[u16], atoms: &[u16], values: &[i8], side: Side, a
         return 0;
     }
     let chains = chains(edges, values, side);
+    let mut distances = blank();
     let mut those = 0u64;
     let mut rest = asked;
     while rest != 0 {
         let first = atom_at(atoms, u64::trailing_zeros(rest) as usize);
         let same = starting_at(atoms, rest, first.from);
-        let distances = length_walk(edges, &chains, wide(first.from));
+        length_walk(edges, &chains, wide(first.from), &mut distances);
         those = those | true_by(atoms, same, &distances);
         rest = rest & !same;
     }

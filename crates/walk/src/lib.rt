@@ -20,14 +20,21 @@ ghost use lib.Dec.{T};
 ghost use Rattle.plan.specs.Meaning.{costBy, graphOf, trueIn, Allows};
 ghost use Rattle.plan.specs.Ranged.{maxEdges};
 ghost use Rattle.plan.specs.Tables.{edgesOf, edgeOf, atomOf};
-ghost use Rattle.walk.specs.Walking.{bit, Inside, Placed, Neighbours, reachedIn, distanceIn, DistanceTable, Walked, Truth, SettledBy};
+ghost use Rattle.walk.specs.Walking.{bit, Inside, Placed, Neighbours, reachedIn, distanceIn, DistanceTable, Room, Walked, Truth, SettledBy};
 ghost use Rattle.walk.specs.Front.{UpTo, size, Visited, Laid};
 
 // The distances from one node: that of node w at place w, and behind them the set of the nodes that are reached, 32 to a number.
-// What stands at a node that is not reached says nothing.
+// What stands at a node that is not reached says nothing, so that one table serves for walk after walk.
 pub type Distances = [u32; 66];
 
 const REACHED: usize = 64;
+
+// A table to walk into.
+pub fn blank() -> Distances
+    ensures { λ r. ⌜ Room r ⌝ }
+{
+    [0; 66]
+}
 
 // Whether a node is in a set.
 pub fn has(set: u64, node: usize) -> bool
@@ -86,7 +93,7 @@ pub fn neighbours(edges: &[u16], values: &[i8], side: Side) -> [u64; 64]
 
 // Gives each node of the set `new` its count and a place in the queue, whose first `tail` places are used. Returns the queue's new end.
 fn visit(new: u64, count: u32, tail: usize, counts: &mut Distances, queue: &mut [u8; 64]) -> usize
-    requires { ⌜ length (now counts) ≡ 66 ⌝ }
+    requires { ⌜ Room (now counts) ⌝ }
     requires { ⌜ length (now queue) ≡ 64 ⌝ }
     requires { ⌜ tail + size new ≤ 64 ⌝ }
     ensures { λ r. ⌜ Visited new count tail (now (counts .entry)) (now (queue .entry)) r (now (counts .exit)) (now (queue .exit)) ⌝ }
@@ -105,7 +112,7 @@ fn visit(new: u64, count: u32, tail: usize, counts: &mut Distances, queue: &mut 
 
 // Puts the set of the nodes that are reached behind the distances.
 fn put_reached(reached: u64, distances: &mut Distances)
-    requires { ⌜ length (now distances) ≡ 66 ⌝ }
+    requires { ⌜ Room (now distances) ⌝ }
     ensures { λ _. ⌜ Laid reached (now (distances .entry)) (now (distances .exit)) ⌝ }
 {
     distances[REACHED] = (reached % 4294967296) as u32;
@@ -113,12 +120,13 @@ fn put_reached(reached: u64, distances: &mut Distances)
 }
 
 // The hops from `source` to every node, breadth first.
-pub fn walk(neighbours: &[u64; 64], source: usize) -> Distances
+pub fn walk(neighbours: &[u64; 64], source: usize, counts: &mut Distances)
     requires { ⌜ source < 64 ⌝ }
-    ensures { λ r. ⌜ Walked (now (neighbours .entry)) source r ⌝ }
+    requires { ⌜ Room (now counts) ⌝ }
+    ensures { λ _. ⌜ Walked (now (neighbours .entry)) source (now (counts .exit)) ⌝ }
 {
     let mut reached = 1u64 << source;
-    let mut counts: Distances = [0; 66];
+    counts[source] = 0;
     let mut queue: [u8; 64] = [0; 64];
     queue[0] = source as u8;
     let mut tail = 1;
@@ -127,12 +135,11 @@ pub fn walk(neighbours: &[u64; 64], source: usize) -> Distances
         let node = queue[head] as usize;
         let new = neighbours[node] & !reached;
         let count = counts[node] + 1;
-        tail = visit(new, count, tail, &mut counts, &mut queue);
+        tail = visit(new, count, tail, counts, &mut queue);
         reached = reached | new;
         head += 1;
     }
-    put_reached(reached, &mut counts);
-    counts
+    put_reached(reached, counts);
 }
 
 // The distances from `source` in the under graph or in the over graph, by hops or by length.
@@ -149,14 +156,17 @@ pub fn distances_by(
     requires { ⌜ source < 64 ⌝ }
     ensures { λ r. ⌜ DistanceTable (costBy measure) (edgesOf (now (edges .entry))) (graphOf side (trueIn (now (values .entry)))) source r ⌝ }
 {
+    let mut distances = blank();
     match measure {
         Measure::Hops => {
             let sets = neighbours(edges, values, side);
-            walk(&sets, source)
+            walk(&sets, source, &mut distances);
+            distances
         }
         Measure::Lengths => {
             let chains = chains(edges, values, side);
-            length_walk(edges, &chains, source)
+            length_walk(edges, &chains, source, &mut distances);
+            distances
         }
     }
 }

@@ -77,18 +77,19 @@ atom-at-requires c κs = omega (arith, begin (found c) .pre .0 .long, inside c)
 
 walk-requires : tie.Need-walk-requires Inv-loop μ-loop
 walk-requires c κs =
-    let a = c .before .before in
-    omega (arith, c .wide .ensures, ap (λ (A : Atom). A .from) (a .atom-at .ensures), first-from (a .before))
+    let b = c .before .before .before in
+    let a = b .before in
+    (omega (arith, c .before .wide .ensures, ap (λ (A : Atom). A .from) (a .atom-at .ensures), first-from (a .before)), b .blank .ensures)
 
 loop-holds : tie.Need-loop-holds Inv-loop μ-loop
 loop-holds c =
-    let n = c .before .before .before .before in
-    (first (found n) .inside, subst (λ s. Walked (n .neighbours .result) s (c .walk .result)) (c .before .wide .ensures) (c .walk .ensures), (λ t. t), start (found n))
+    let n = c .before .before .before .before .before .before in
+    (first (found n) .inside, rw (c .before .before .wide .ensures) at (c .walk .ensures), (λ t. t), start (found n))
 
 -- a turn of the loop
 module _ (c : tie.At-loop Inv-loop μ-loop) where
   abbrev sets : tie.After-neighbours Inv-loop μ-loop
-  sets = c .before .before .before .before .before
+  sets = c .before .before .before .before .before .before .before
 
   abbrev begun : tie.Start Inv-loop μ-loop
   begun = begin (found sets)
@@ -162,8 +163,8 @@ loop-again-2 c =
 
 walk-requires-2 : tie.Need-walk-requires-2 Inv-loop μ-loop
 walk-requires-2 c κs =
-    let a = asked (c .before .before .before) in
-    omega (arith, c .wide2 .ensures, from-is a, this-ready a .fits .from-in)
+    let a = asked (c .before .before .before .before) in
+    (omega (arith, c .before .wide2 .ensures, from-is a, this-ready a .fits .from-in), turn a .loop .inv .1 .room)
 
 -- the distances from its source
 walked-as : (sets : List ℕ) (s t : ℕ) (d e : List ℕ) → s ≡ t → d ≡ e → Walked sets t e → Walked sets s d
@@ -179,11 +180,11 @@ module _ (c : tie.Joined3 Inv-loop μ-loop) where
   walked : Walked (sets (turn seen) .neighbours .result) (c .if3 .source) (c .if3 .distances)
   walked =
       let n = sets (turn seen) .neighbours .result in
-      ⊎-elim (λ w. walked-as n _ _ _ _ (w .7 ∙ sym (w .5 .ensures)) (w .8) (w .6 .ensures))
+      ⊎-elim (λ w. walked-as n _ _ _ _ (w .8 ∙ sym (w .5 .ensures)) (w .9) (w .7 .ensures))
       (λ w. walked-as n _ _ _ _ (w .1) (w .2) (turn seen .loop .inv .1)) (c .if3 .came)
 
   source-is : c .if3 .source ≡ this seen .from
-  source-is = ⊎-elim (λ w. w .7 ∙ from-is seen) (λ w. w .1 ∙ sym (w .0 .left) ∙ from-is seen) (c .if3 .came)
+  source-is = ⊎-elim (λ w. w .8 ∙ from-is seen) (λ w. w .1 ∙ sym (w .0 .left) ∙ from-is seen) (c .if3 .came)
 
 -- the look at it
 module _ (c : tie.After-look-at Inv-loop μ-loop) where
@@ -246,7 +247,7 @@ pub look-for-spec : {M : Type 1} → statement M
 look-for-spec =
     tie.close
     (tie.spec
-    Inv-loop μ-loop (λ c κs. let p = c .before .before .before .pre in (ready-atoms (p .0), (p .1 .few, omega arith))) (λ c. search needs) returns (λ c κs. tt) neighbours-requires atom-at-requires (λ c κs. tt) walk-requires loop-holds
+    Inv-loop μ-loop (λ c κs. let p = c .before .before .before .pre in (ready-atoms (p .0), (p .1 .few, omega arith))) (λ c. search needs) returns (λ c κs. tt) neighbours-requires atom-at-requires (λ c κs. tt) (λ c κs. tt) walk-requires loop-holds
     (λ c κs. omega (arith, begun (c .before) .pre .0 .long, c .loop-test .taken)) has-requires add-at (λ c. less (c .before .before)) loop-again
     (λ c κs. let f = atom-ready (c .before .before .before .before .before) .fits in (f .low, f .high)) (λ c. less (asked (c .before))) loop-again-2 (λ c κs. tt) walk-requires-2
     (λ c κs. atom-ready (seen (c .before .before)))

@@ -42,12 +42,12 @@ loop-holds : tie.Need-loop-holds Inv-loop μ-loop
 loop-holds c = (omega arith, c .walk .ensures, start)
 
 atom-at-requires : tie.Need-atom-at-requires Inv-loop μ-loop
-atom-at-requires c κs = omega (arith, c .before .before .before .before .before .before .before .before .before .pre .1 .1 .1 .1 .1, c .loop-test .taken)
+atom-at-requires c κs = omega (arith, c .before .before .before .before .before .before .before .before .before .before .before .pre .1 .1 .1 .1 .1, c .loop-test .taken)
 
 -- the atom that is read
 module _ (c : tie.After-atom-at Inv-loop μ-loop) where
   abbrev begin : tie.Start Inv-loop μ-loop
-  begin = c .before .before .before .before .before .before .before .before .before .before
+  begin = c .before .before .before .before .before .before .before .before .before .before .before .before
 
   abbrev number : ℕ
   number = c .before .before .loop .number
@@ -67,9 +67,10 @@ module _ (c : tie.After-atom-at Inv-loop μ-loop) where
   fits : (this .from < 64) × (this .to < 64) × (1 ≤ this .variable) × (this .variable ≤ length (begin .args .assignment .now))
   fits = begin .pre .1 .1 .0 this (rw (c .atom-at .ensures) (mem-at all _ number inside))
 
-distances-from-requires : tie.Need-distances-from-requires Inv-loop μ-loop
-distances-from-requires c κs =
-    (omega (arith, c .before .wide .ensures, fits (c .before .before .before .before) .0), c .before .before .before .before .before .before .loop .inv .1)
+walk-on-requires : tie.Need-walk-on-requires Inv-loop μ-loop
+walk-on-requires c κs =
+    let a = c .before .before .before .before .before in
+    (omega (arith, c .before .before .wide .ensures, fits a .0), a .before .before .loop .inv .1)
 
 -- the distances are those from its node, where it counts hops
 walked-as : (sets : List ℕ) (s t : ℕ) (d e : List ℕ) → s ≡ t → d ≡ e → Walked sets t e → Walked sets s d
@@ -80,13 +81,13 @@ module _ (c : tie.Joined1 Inv-loop μ-loop) where
   read = c .before .before
 
   abbrev sets : List ℕ
-  sets = read .before .before .before .before .before .neighbours .result
+  sets = read .before .before .before .before .before .before .before .neighbours .result
 
   walked : Walked sets (c .if1 .source) (c .if1 .distances)
-  walked = ⊎-elim (λ w. walked-as sets _ _ _ _ (w .4) (w .5) (w .3 .ensures)) (λ w. walked-as sets _ _ _ _ (w .1) (w .2) (read .before .before .loop .inv .1)) (c .if1 .came)
+  walked = ⊎-elim (λ w. walked-as sets _ _ _ _ (w .5) (w .6) (w .4 .ensures)) (λ w. walked-as sets _ _ _ _ (w .1) (w .2) (read .before .before .loop .inv .1)) (c .if1 .came)
 
-  source-is : (T (bit (number read) (read .before .before .before .before .before .before .before .length-atoms .result)) → ⊥) → c .if1 .source ≡ this read .from
-  source-is n = ⊎-elim (λ w. w .4 ∙ w .1 .ensures) (λ w. absurd (n (so (c .before .has .ensures) (not-false _ (w .0 .left))))) (c .if1 .came)
+  source-is : (T (bit (number read) (read .before .before .before .before .before .before .before .before .before .length-atoms .result)) → ⊥) → c .if1 .source ≡ this read .from
+  source-is n = ⊎-elim (λ w. w .5 ∙ w .1 .ensures) (λ w. absurd (n (so (c .before .has .ensures) (not-false _ (w .0 .left))))) (c .if1 .came)
 
 -- its truth, and whether its variable equals it
 module _ (c : tie.After-truth-of Inv-loop μ-loop) where
@@ -103,7 +104,7 @@ module _ (c : tie.After-truth-of Inv-loop μ-loop) where
   es = edgesOf (begin its .args .edges .now)
 
   abbrev counted : tie.After-length-atoms Inv-loop μ-loop
-  counted = its .before .before .before .before .before .before .before
+  counted = its .before .before .before .before .before .before .before .before .before
 
   hops : (T (bit (number its) (counted .length-atoms .result)) → ⊥) → measureOf (this its .kind) ≡ Hops
   hops n = ap (λ A. measureOf (A .kind)) (its .atom-at .ensures) ∙ by-hops (number its) (counted .length-atoms .ensures) (its .before .loop-test .taken) n
@@ -113,7 +114,7 @@ module _ (c : tie.After-truth-of Inv-loop μ-loop) where
     where
       by-set : T (bit (number its) (counted .length-atoms .result)) → T (c .truth-of .result) ↔ IsTrue es g (atom (all its) (number its))
       by-set t =
-          let q = its .before .before .before .before .before .before .true-by-length .ensures (number its) in
+          let q = its .before .before .before .before .before .before .before .before .true-by-length .ensures (number its) in
           let e = c .truth-of .ensures .by-length t in
           ((λ u. q .0 (subst (λ b. T b) e u) .1), (λ x. subst (λ b. T b) (sym e) (q .1 (t, x))))
 
@@ -123,7 +124,7 @@ module _ (c : tie.After-truth-of Inv-loop μ-loop) where
           c .truth-of .ensures .by-hops n es g
           (subst (λ m. DistanceTable (costBy m) es g (this its .from) (joined .if1 .distances)) (sym (hops n))
           (subst (λ (s : ℕ). DistanceTable oneHop es g s (joined .if1 .distances)) (source-is joined n)
-          (walked joined es g (begin its .pre .0) (its .before .before .before .before .before .neighbours .ensures))))
+          (walked joined .table es g (begin its .pre .0) (its .before .before .before .before .before .before .before .neighbours .ensures))))
 
 module _ (c : tie.After-is-right Inv-loop μ-loop) where
   abbrev told : tie.After-truth-of Inv-loop μ-loop
@@ -159,7 +160,7 @@ loop-again c =
 
 returns-2 : tie.Need-returns-2 Inv-loop μ-loop
 returns-2 c =
-    let b = c .before .before .before .before .before .before .before .before .before in
+    let b = c .before .before .before .before .before .before .before .before .before .before .before in
     let l : length (atomsOf (b .args .atoms .now)) ≤ c .before .loop .number = omega (arith, atoms-length (b .args .atoms .now) (b .args .count) (b .pre .1 .1 .1 .1 .1), c .loop-test .left) in
     passed-none (c .before .loop .inv .2) (drop-of-length-le _ l)
 
@@ -172,12 +173,13 @@ first-wrong-spec =
     (λ c κs. let b = c .before .before in (b .pre .1 .1 .1 .1 .0, b .pre .1 .1 .1 .1 .1))
     true-by-length-requires
     (λ c κs. let b = c .before .before .before .before in (b .pre .0, b .pre .1 .0))
-    (λ c κs. search needs)
+    (λ c κs. tt)
+    (λ c κs. (omega arith, c .before .before .blank .ensures))
     loop-holds
     atom-at-requires
     (λ c κs. few (c))
     (λ c κs. search needs)
-    distances-from-requires
+    walk-on-requires
     (λ c κs. let r = read (c .before) in (fits r .1, few r))
     (λ c. omega (arith, its c .before .loop-test .taken))
     is-right-requires

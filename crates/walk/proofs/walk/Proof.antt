@@ -1,5 +1,5 @@
 -- `walk::walk`: nodes are taken from the queue in the order of their distance, so each node's first count is its distance.
-use mathlib.Core.Path.{_≡_, refl}
+use mathlib.Core.Path.{_≡_, refl, _∙_}
 use Prim.Native.Nat.{_-_, _≤_}
 use native.Mathlib.Numerals.{add-one}
 use native.Mathlib.Omega.{arith}
@@ -10,23 +10,29 @@ use Rattle.walk.proofs.walk.Statement.{statement}
 use Rattle.walk.proofs.walk.Tie as tie
 
 abbrev Inv-loop : tie.InvT-loop
-Inv-loop neighbours source reached₀ counts₀ queue₀ tail₀ head₀ reached counts queue tail head =
+Inv-loop neighbours source counts₀ reached₀ queue₀ tail₀ head₀ counts reached queue tail head =
     (head ≤ tail) × Bfs neighbours source reached counts queue tail head
 
 abbrev μ-loop : tie.MeasureT-loop
-μ-loop neighbours source reached₀ counts₀ queue₀ tail₀ head₀ reached counts queue tail head = 64 - head
+μ-loop neighbours source counts₀ reached₀ queue₀ tail₀ head₀ counts reached queue tail head = 64 - head
 
 shl-reached : tie.Need-shl-reached Inv-loop μ-loop
-shl-reached c = c .pre
+shl-reached c = c .pre .0
+
+mul-counts : tie.Need-mul-counts Inv-loop μ-loop
+mul-counts c = omega (arith, c .pre .0)
+
+element-write-counts : tie.Need-element-write-counts Inv-loop μ-loop
+element-write-counts c = omega (arith, c .pre .0)
 
 cast-queue : tie.Need-cast-queue Inv-loop μ-loop
-cast-queue c = omega arith
+cast-queue c = omega (arith, c .pre .0)
 
 array-write-queue : tie.Need-array-write-queue Inv-loop μ-loop
 array-write-queue c = search needs
 
 loop-holds : tie.Need-loop-holds Inv-loop μ-loop
-loop-holds c = (omega arith, begin _ (c .args .source) _ (c .pre) (one-shifted (c .args .source) (c .pre)))
+loop-holds c = (omega arith, begin _ (c .args .source) _ (c .args .counts .now) (c .pre .0) (c .pre .1) (one-shifted (c .args .source) (c .pre .0)))
 
 array-read-node : tie.Need-array-read-node Inv-loop μ-loop
 array-read-node c = omega (arith, tail-le (c .before .loop .inv .1))
@@ -43,37 +49,47 @@ element-copy-out-new c = node-in (c .before .loop .inv .1) (c .loop-test .taken)
 mul-count : tie.Need-mul-count Inv-loop μ-loop
 mul-count c = omega (arith, node-in (c .before .before .loop .inv .1) (c .before .loop-test .taken))
 
-array-read-count : tie.Need-array-read-count Inv-loop μ-loop
-array-read-count c = omega (arith, node-in (c .before .before .loop .inv .1) (c .before .loop-test .taken))
+element-copy-out-count : tie.Need-element-copy-out-count Inv-loop μ-loop
+element-copy-out-count c = omega (arith, node-in (c .before .before .loop .inv .1) (c .before .loop-test .taken))
 
 add-count : tie.Need-add-count Inv-loop μ-loop
-add-count c = omega (arith, count-in (c .before .before .loop .inv .1) (c .before .loop-test .taken))
+add-count c = omega (arith, count-in (c .before .before .before .loop .inv .1) (c .before .before .loop-test .taken))
 
 visit-requires : tie.Need-visit-requires Inv-loop μ-loop
 visit-requires c κs =
-    let b = c .before .before .before .before .loop .inv .1 in
-    (b .numbered, (b .places, room-for _ _ _ _ _ _ _ b (c .before .before .before .loop-test .taken) _ _ refl refl))
+    let b = c .before .before .before .before .before .loop .inv .1 in
+    (b .numbered, (b .places, room-for _ _ _ _ _ _ _ b (c .before .before .before .before .loop-test .taken) _ _ refl refl))
+
+-- a turn, once the neighbours are visited
+module _ (c : tie.After-visit Inv-loop μ-loop) where
+  abbrev its : tie.At-loop Inv-loop μ-loop
+  its = c .before .before .before .before .before .before
+
+  tail-in : its .loop .tail ≤ 64
+  tail-in = tail-le (its .loop .inv .1)
 
 add-head : tie.Need-add-head Inv-loop μ-loop
-add-head c = omega (arith, tail-le (c .before .before .before .before .before .loop .inv .1))
+add-head c = omega (arith, tail-in c)
 
 loop-less : tie.Need-loop-less Inv-loop μ-loop
-loop-less c = omega (arith, tail-le (c .before .before .before .before .before .loop .inv .1))
+loop-less c = omega (arith, tail-in c)
 
 loop-again : tie.Need-loop-again Inv-loop μ-loop
 loop-again c =
-    let b = c .before .before .before .before .before .loop .inv .1 in
     let v = c .visit .ensures in
-    (omega (arith, v .ends), turn _ _ _ _ _ _ _ b (c .before .before .before .before .loop-test .taken) _ _ refl refl _ _ _ _ (add-one _) v)
+    (omega (arith, v .ends), turn _ _ _ _ _ _ _ (its c .loop .inv .1) (c .before .before .before .before .before .loop-test .taken) _ _ refl refl _ _ _ _ (add-one _) v)
 
 put-reached-requires : tie.Need-put-reached-requires Inv-loop μ-loop
 put-reached-requires c κs = c .before .before .loop .inv .1 .numbered
 
 returns : tie.Need-returns Inv-loop μ-loop
-returns c = λ es g inside n.
+returns c =
     let l = c .before .before .before in
     let e : l .loop .head ≡ l .loop .tail = omega arith in
-    table _ _ (l .before .pre) es g inside n _ _ _ _ (rw e at (l .loop .inv .1)) _ (c .put-reached .ensures)
+    record {
+      table = λ es g inside n. table _ _ (l .before .pre .0) es g inside n _ _ _ _ (rw e at (l .loop .inv .1)) _ (c .put-reached .ensures);
+      room = c .put-reached .ensures .long ∙ l .loop .inv .1 .numbered;
+    }
 
 pub walk-spec : {M : Type 1} → statement M
 walk-spec =
@@ -82,6 +98,8 @@ walk-spec =
     Inv-loop
     μ-loop
     shl-reached
+    mul-counts
+    element-write-counts
     cast-queue
     array-write-queue
     loop-holds
@@ -90,7 +108,7 @@ walk-spec =
     mul-new
     element-copy-out-new
     mul-count
-    array-read-count
+    element-copy-out-count
     add-count
     visit-requires
     add-head

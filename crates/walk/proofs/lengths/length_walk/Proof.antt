@@ -1,4 +1,5 @@
 -- `walk::lengths::length_walk`: nodes are done in the order of their distance, so each node's distance is the least once it is done.
+use mathlib.Core.Path.{_∙_}
 use Prim.Native.Nat.{_-_, _^_, _<_}
 use native.Mathlib.Omega.{arith}
 use borrow.Author.Needs.{needs}
@@ -27,11 +28,19 @@ module _ (c : tie.At-loop Inv-loop μ-loop) where
   own : Dijkstra (edgesOf (start .args .edges .now)) (start .pre .0 .graph) (start .args .source) (c .loop .known) (c .loop .done) (c .loop .distances)
   own = c .loop .inv (start .pre .0 .graph) (start .pre .0 .chained)
 
+mul-distances : tie.Need-mul-distances Inv-loop μ-loop
+mul-distances c = omega (arith, c .before .pre .1 .0)
+
+element-write-distances : tie.Need-element-write-distances Inv-loop μ-loop
+element-write-distances c = omega (arith, c .before .pre .1 .0)
+
 shl-known : tie.Need-shl-known Inv-loop μ-loop
-shl-known c = c .before .pre .1
+shl-known c = c .before .pre .1 .0
 
 loop-holds : tie.Need-loop-holds Inv-loop μ-loop
-loop-holds c = λ g h. begin _ g (c .before .args .source) _ (c .before .pre .1) (one-shifted (c .before .args .source) (c .before .pre .1))
+loop-holds c = λ g h.
+    let s = c .before in
+    begin _ g (s .args .source) _ (s .args .distances .now) (s .pre .1 .0) (s .pre .1 .1) (one-shifted (s .args .source) (s .pre .1 .0))
 
 nearest-requires : tie.Need-nearest-requires Inv-loop μ-loop
 nearest-requires c κs = let v = own (c .before .before) in (some-left v (c .before .loop-test .taken), v .long)
@@ -65,7 +74,12 @@ put-reached-requires : tie.Need-put-reached-requires Inv-loop μ-loop
 put-reached-requires c κs = own (c .before .before) .long
 
 returns : tie.Need-returns Inv-loop μ-loop
-returns c = λ g h. table (rw (c .before .before .loop-test .left) at (c .before .before .before .loop .inv g h)) (c .put-reached .ensures)
+returns c =
+    let l = c .before .before .before in
+    record {
+      table = λ g h. table (rw (c .before .before .loop-test .left) at (l .loop .inv g h)) (c .put-reached .ensures);
+      room = c .put-reached .ensures .long ∙ own l .long;
+    }
 
 pub length-walk-spec : {M : Type 1} → statement M
 length-walk-spec =
@@ -73,6 +87,8 @@ length-walk-spec =
     (tie.spec
     Inv-loop
     μ-loop
+    mul-distances
+    element-write-distances
     shl-known
     loop-holds
     nearest-requires

@@ -8,7 +8,7 @@ use lib.Count.{trailingZeros}
 use lib.Dec.{T}
 use Rattle.plan.specs.Meaning.{Graph, atom, IsTrue}
 use Rattle.plan.specs.Tables.{edgesOf, atomsOf}
-use Rattle.walk.specs.Walking.{bit, Chained, LengthAtoms}
+use Rattle.walk.specs.Walking.{bit, Chained, LengthAtoms, Room}
 use Rattle.walk.proofs.Sets.{bit-empty, Taken, taken}
 use Rattle.walk.proofs.Picking.{Less, less-part, Left, left-all, left-less, Chosen, chosen-none, chosen-all, chosen-more}
 use Rattle.walk.proofs.Asked.{asked-within, asked-part}
@@ -17,16 +17,19 @@ use Rattle.walk.proofs.lengths.true_by_length.Tie as tie
 
 -- of whatever graph the chains are: the loop does not know the side
 abbrev Inv-loop : tie.InvT-loop
-Inv-loop edges atoms values asked chains those₀ rest₀ those rest =
-    Left asked rest × ((g : Graph) → Chained (edgesOf edges) g chains → Chosen (λ k. IsTrue (edgesOf edges) g (atom (atomsOf atoms) k)) asked those rest)
+Inv-loop edges atoms values asked chains distances₀ those₀ rest₀ distances those rest =
+    Left asked rest × ((g : Graph) → Chained (edgesOf edges) g chains → Chosen (λ k. IsTrue (edgesOf edges) g (atom (atomsOf atoms) k)) asked those rest) × Room distances
 
 abbrev μ-loop : tie.MeasureT-loop
-μ-loop edges atoms values asked chains those₀ rest₀ those rest = rest
+μ-loop edges atoms values asked chains distances₀ those₀ rest₀ distances those rest = rest
 
 -- what is left are atoms, and it has a lowest
 module _ (c : tie.In-loop Inv-loop μ-loop) where
-  atoms-left : LengthAtoms (atomsOf (c .before .before .before .before .before .before .args .atoms .now)) (c .before .loop .rest)
-  atoms-left = asked-part (c .before .before .before .before .before .before .pre .1 .1 .1) (c .before .loop .inv .0 .part)
+  abbrev begin : tie.Start Inv-loop μ-loop
+  begin = c .before .before .before .before .before .before .before
+
+  atoms-left : LengthAtoms (atomsOf (begin .args .atoms .now)) (c .before .loop .rest)
+  atoms-left = asked-part (begin .pre .1 .1 .1) (c .before .loop .inv .0 .part)
 
   lowest : Taken (c .before .loop .rest) (trailingZeros 64 (c .before .loop .rest)) (bitAnd (c .before .loop .rest) (c .before .loop .rest - 1))
   lowest = taken (c .before .loop .rest) (c .before .loop .inv .0 .fits) (c .loop-test .taken)
@@ -47,7 +50,7 @@ chains-requires : tie.Need-chains-requires Inv-loop μ-loop
 chains-requires c κs = search needs
 
 loop-holds : tie.Need-loop-holds Inv-loop μ-loop
-loop-holds c = (left-all _ (c .before .before .before .before .fits .asked .fits), λ g x. chosen-none _ _)
+loop-holds c = (left-all _ (c .before .before .before .before .before .fits .asked .fits), (λ g x. chosen-none _ _), c .blank .ensures)
 
 cast-atom-at : tie.Need-cast-atom-at Inv-loop μ-loop
 cast-atom-at c = omega (arith, lowest c .inside)
@@ -63,33 +66,38 @@ wide-requires c κs = search needs
 
 length-walk-requires : tie.Need-length-walk-requires Inv-loop μ-loop
 length-walk-requires c κs =
-    let d = c .before .before .before in
+    let d = c .before .before .before .before in
     let t = d .before in
-    let s = t .before .before .before .before .before .before in (
-      record { graph = _; chained = t .before .before .chains .ensures; inside = s .pre .0; few = s .pre .1 .1 .0 },
-      omega (arith, c .wide .ensures, ap (λ x. x .from) (d .atom-at .ensures), atoms-left t .from-in _ (lowest t .is)),
+    let s = begin t in (
+      record { graph = _; chained = t .before .before .before .chains .ensures; inside = s .pre .0; few = s .pre .1 .1 .0 },
+      (
+        omega (arith, c .before .wide .ensures, ap (λ x. x .from) (d .atom-at .ensures), atoms-left t .from-in _ (lowest t .is)),
+        t .before .loop .inv .2,
+      ),
     )
 
 true-by-requires : tie.Need-true-by-requires Inv-loop μ-loop
-true-by-requires c κs = let d = c .before .before .before .before in asked-part (atoms-left (d .before .before)) (same-inside d)
+true-by-requires c κs = let d = c .before .before .before .before .before in asked-part (atoms-left (d .before .before)) (same-inside d)
 
 loop-less : tie.Need-loop-less Inv-loop μ-loop
-loop-less c = same-out (c .before .before .before .before .before) .fewer
+loop-less c = same-out (c .before .before .before .before .before .before) .fewer
 
 loop-again : tie.Need-loop-again Inv-loop μ-loop
 loop-again c =
-    let d = c .before .before .before .before .before in
-    let l = d .before .before .before .loop .inv in (
+    let d = c .before .before .before .before .before .before in
+    let l = d .before .before .before .loop .inv in
+    let w = c .before .before .length-walk .ensures in (
       left-less (l .0) (same-out d),
-      λ g x. chosen-more _ _ _ _ (l .0) (l .1 g x) _ _ _ (same-out d) (c .true-by .ensures _ g (λ k t.
-          rw (d .starting-at .ensures k .0 t .1) (rw (c .before .before .before .wide .ensures) at (c .before .before .length-walk .ensures g x)))),
+      (λ g x. chosen-more _ _ _ _ (l .0) (l .1 g x) _ _ _ (same-out d) (c .true-by .ensures _ g (λ k t.
+          rw (d .starting-at .ensures k .0 t .1) (rw (c .before .before .before .before .wide .ensures) at (w .table g x))))),
+      w .room,
     )
 
 returns : tie.Need-returns Inv-loop μ-loop
 returns c = let e = c .if1 .taken in rw e (λ k. ((λ t. absurd (bit-empty k t)), (λ t. absurd (bit-empty k (t .0)))))
 
 returns-2 : tie.Need-returns-2 Inv-loop μ-loop
-returns-2 c = chosen-all _ _ _ _ (c .loop-test .left) (c .before .loop .inv .1 _ (c .before .before .chains .ensures))
+returns-2 c = chosen-all _ _ _ _ (c .loop-test .left) (c .before .loop .inv .1 _ (c .before .before .before .chains .ensures))
 
 pub true-by-length-spec : {M : Type 1} → statement M
 true-by-length-spec =
@@ -99,6 +107,7 @@ true-by-length-spec =
     μ-loop
     returns
     chains-requires
+    (λ c κs. tt)
     loop-holds
     cast-atom-at
     atom-at-requires
