@@ -17,9 +17,9 @@ use Rattle.plan.specs.Meaning.{Edge, Graph, Leads, Walk, stay, hop, oneHop}
 use Rattle.plan.proofs.Bools.{T?, or-cases, or-left, or-right}
 use Rattle.plan.proofs.Walks.{its-in}
 use Rattle.walk.specs.Walking.{bit, Inside, Neighbours, DistanceTable, Room}
-use Rattle.walk.specs.Front.{size, Visited, Laid}
+use Rattle.walk.specs.Front.{size, Visited}
 use Rattle.walk.proofs.Sets.{bit-inside, bit-one, bit-or, bit-and-not, and-not-lt, size-or, size-one, size-le}
-use Rattle.walk.proofs.Reach.{laid-table}
+use Rattle.walk.proofs.Reach.{set-table}
 
 -- A walk from s over the sets of neighbours.
 pub data Trail (sets : List ℕ) (s : ℕ) : ℕ → ℕ → Type 0 where
@@ -219,5 +219,5 @@ module _ (sets : List ℕ) (s : ℕ) (below : s < 64) (es : List Edge) (g : Grap
         (c .0, omega (arith, e, c .1, o .1, ap (λ (x : ℕ). getD counts x 0) (p .2)))
 
     -- the set stands behind the counts
-    pub table : (d : List ℕ) → Laid reached counts d → DistanceTable oneHop es g s d
-    table d l = laid-table l (b .numbered) (b .fits) (λ w t. walked (b .sound w t)) (λ w k r. reach r)
+    pub table : DistanceTable oneHop es g s (set counts 64 reached)
+    table = set-table reached counts (b .numbered) (b .fits) (λ w t. walked (b .sound w t)) (λ w k r. reach r)

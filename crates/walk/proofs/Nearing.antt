@@ -16,10 +16,10 @@ use Rattle.plan.specs.Tables.{edgesOf}
 use Rattle.plan.proofs.Bools.{T?, T-same}
 use Rattle.plan.proofs.Tables.{edges-at, edges-most}
 use Rattle.walk.specs.Walking.{bit, DistanceTable, Room}
-use Rattle.walk.specs.Front.{size, Laid}
+use Rattle.walk.specs.Front.{size}
 use Rattle.walk.specs.Nearest.{Nearest, Relaxed}
 use Rattle.walk.proofs.Sets.{bit-empty, bit-inside, bit-one, bit-without, bits-same, more-old, more-which, size-or, size-one}
-use Rattle.walk.proofs.Reach.{laid-table}
+use Rattle.walk.proofs.Reach.{set-table}
 
 -- an edge's length, in a table of so small numbers
 pub length-fits : (l : List ℕ) → ((i : ℕ) → getD l i 0 ≤ maxLength) → (k : ℕ) → k < length (edgesOf l) → edge (edgesOf l) k .length ≤ maxLength
@@ -144,5 +144,5 @@ module _ {es : List Edge} {g : Graph} {s known : ℕ} {d : List ℕ} (v : Dijkst
       let c = v .closed u w (o .0) e in
       (c .0, omega (arith, p, c .1, o .1))
 
-  pub table : {d′ : List ℕ} → Laid known d d′ → DistanceTable ownLength es g s d′
-  table l = laid-table l (v .long) (v .known-fits) (v .sound) (λ w k r. reach r)
+  pub table : DistanceTable ownLength es g s (set d 64 known)
+  table = set-table known d (v .long) (v .known-fits) (v .sound) (λ w k r. reach r)

@@ -6,14 +6,13 @@ use mathlib.Core.Bool.{not, _&&_, _||_}
 use Prim.Native.Nat.{ℕ, zero, suc, _+_, _*_, _-_, _/_, _%_, _^_, _<_, _≤_, min, max}
 use native.Mathlib.Nat.{pow-suc, div-div-eq-div-mul, zero-min, min-zero}
 use native.Mathlib.Decide.{ℕ-discrete}
-use native.Mathlib.Numerals.{add-one}
 use native.Mathlib.Omega.{arith}
 use borrow.Author.Tests.{eq-eqb, ne-eqb}
 use lib.Bits.{bitAnd, bitOr, and-step, and-self, and-le-r, or-step}
 use lib.Count.{trailingZeros, under}
 use lib.ListN.{getD, replicate}
 use lib.Dec.{T, eqb, eqb→eq, T-not, not-T}
-use lib.Pow.{pow-pos, pow-lt, shr-shr, field, mod-mod-pow}
+use lib.Pow.{pow-pos, pow-lt}
 use Rattle.plan.proofs.Bools.{or-cases, or-left, or-right, and-both, and-left, and-right}
 use Rattle.walk.specs.Walking.{bit}
 use Rattle.walk.specs.Front.{sizeIn}
@@ -297,14 +296,3 @@ pub zeros : (n i : ℕ) → _≡_ {A = ℕ} (getD (replicate n 0) i 0) 0
 zeros zero i = refl
 zeros (suc n) zero = refl
 zeros (suc n) (suc i) = zeros n i
-
--- ---- the lower nodes of a set, and the upper ones
-
-pub bit-low : (k i x : ℕ) → i < k → bit i (x % 2 ^ k) ≡ bit i x
-unfolding bit
-bit-low zero i x l = absurd (omega arith)
-bit-low (suc k) zero x l = ap (λ (y : ℕ). eqb y 1) (rw add-one at (mod-mod-pow x k 1))
-bit-low (suc k) (suc i) x l = ap (bit i) (rw add-one at (field x k 1)) ∙ bit-low k i (x / 2) (omega arith)
-
-pub bit-high : (k i x : ℕ) → bit (k + i) x ≡ bit i (x / 2 ^ k)
-bit-high k i x = bit-shift (k + i) x ∙ ap (λ (y : ℕ). eqb (y % 2) 1) (sym (shr-shr x k i)) ∙ sym (bit-shift i (x / 2 ^ k))

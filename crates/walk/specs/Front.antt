@@ -36,10 +36,3 @@ pub record Visited (x c tail : ℕ) (counts queue : List ℕ) (end : ℕ) (count
   pub other : (w : ℕ) → (T (bit w x) → ⊥) → getD counts′ w 0 ≡ getD counts w 0
   pub numbered : length counts′ ≡ length counts
   pub places : length queue′ ≡ length queue
-
--- The set x stands behind the first 64 places, which are as they were: the lower 32 nodes, then the upper ones.
-pub record Laid (x : ℕ) (d d′ : List ℕ) : Type 0 where
-  pub long : length d′ ≡ length d
-  pub same : (w : ℕ) → w < 64 → getD d′ w 0 ≡ getD d w 0
-  pub lower : getD d′ 64 0 ≡ x % 4294967296
-  pub upper : getD d′ 65 0 ≡ x / 4294967296

@@ -49,10 +49,9 @@ pub record Chains (es : List Edge) (t : List ℕ) : Type 0 where
   pub inside : Inside es
   pub few : length es ≤ maxEdges
 
--- The distances from one node as they stand in a table: that of node w at place w, and from place 64 on the set of the nodes that are
--- reached, 32 nodes to a number.
+-- The distances from one node as they stand in a table: that of node w at place w, and at place 64 the set of the nodes that are reached.
 abbrev pub reachedIn : List ℕ → ℕ → Bool
-reachedIn d w = bit (w % 32) (getD d (64 + w / 32) 0)
+reachedIn d w = bit w (getD d 64 0)
 
 abbrev pub distanceIn : List ℕ → ℕ → ℕ
 distanceIn d w = getD d w 0
@@ -63,7 +62,7 @@ pub record DistanceTable (c : Cost) (es : List Edge) (g : Graph) (s : ℕ) (d : 
 
 -- A table that a walk is written into has all its places.
 abbrev pub Room : List ℕ → Type 0
-Room d = length d ≡ 66
+Room d = length d ≡ 65
 
 -- What the functions promise, of whatever graph the sets and tables are. The table can be walked into again.
 pub record Walked (sets : List ℕ) (s : ℕ) (d : List ℕ) : Type 0 where

@@ -11,11 +11,11 @@ ghost use Rattle.plan.specs.declared.Measure.the-variants.{Lengths};
 ghost use Rattle.walk.specs.Walking.{Inside, Placed, Chained, Chains, Room, LengthWalked, Those, LengthAtoms, TrueBy, CountLengths};
 ghost use Rattle.walk.specs.Nearest.{ChainedFrom, Nearest, isBetter, lowered, Relaxes};
 use crate::Distances;
+use crate::REACHED;
 use crate::blank;
 use crate::has;
 use crate::is_present;
 use crate::is_true;
-use crate::put_reached;
 use plan::Edge;
 use plan::Kind;
 use plan::Measure;
@@ -86,7 +86,7 @@ fn nearest(set: u64, distances: &Distances) -> usize
 }
 
 // Whether a node is reached for the first time, or in less than before.
-fn is_better(known: u64, node: usize, distance: u32, distances: &Distances) -> bool
+fn is_better(known: u64, node: usize, distance: u64, distances: &Distances) -> bool
     requires { ⌜ node < 64 ⌝ }
     requires { ⌜ Room (now distances) ⌝ }
     ensures { λ r. ⌜ r ≡ isBetter known (now (distances .entry)) node distance ⌝ }
@@ -98,14 +98,14 @@ fn is_better(known: u64, node: usize, distance: u32, distances: &Distances) -> b
 }
 
 // Takes an edge that starts `near` away: its end gets the distance over it, where that is the first or a smaller one.
-fn lower(edge: Edge, near: u32, known: u64, distances: &mut Distances)
+fn lower(edge: Edge, near: u64, known: u64, distances: &mut Distances)
     requires { ⌜ edge .to < 64 ⌝ }
     requires { ⌜ near ≤ 64 * maxLength ⌝ }
     requires { ⌜ Room (now distances) ⌝ }
     ensures { λ _. ⌜ now (distances .exit) ≡ lowered known (edge .to) (near + edge .length) (now (distances .entry)) ⌝ }
 {
     let to = wide(edge.to);
-    let far = near + edge.length as u32;
+    let far = near + edge.length as u64;
     if is_better(known, to, far, distances) {
         distances[to] = far;
     }
@@ -148,7 +148,7 @@ pub fn length_walk(edges: &[u16], chains: &Chains, source: usize, distances: &mu
         known = relax(edges, chains, node, known, distances);
         done = done | (1u64 << node);
     }
-    put_reached(known, distances);
+    distances[REACHED] = known;
 }
 
 // Of a set of atoms, those that start at a node.

@@ -21,11 +21,11 @@ ghost use Rattle.plan.specs.Meaning.{costBy, graphOf, trueIn, Allows};
 ghost use Rattle.plan.specs.Ranged.{maxEdges};
 ghost use Rattle.plan.specs.Tables.{edgesOf, edgeOf, atomOf};
 ghost use Rattle.walk.specs.Walking.{bit, Inside, Placed, Neighbours, reachedIn, distanceIn, DistanceTable, Room, Walked, Truth, SettledBy};
-ghost use Rattle.walk.specs.Front.{UpTo, size, Visited, Laid};
+ghost use Rattle.walk.specs.Front.{UpTo, size, Visited};
 
-// The distances from one node: that of node w at place w, and behind them the set of the nodes that are reached, 32 to a number.
+// The distances from one node: that of node w at place w, and behind them the set of the nodes that are reached.
 // What stands at a node that is not reached says nothing, so that one table serves for walk after walk.
-pub type Distances = [u32; 66];
+pub type Distances = [u64; 65];
 
 const REACHED: usize = 64;
 
@@ -33,7 +33,7 @@ const REACHED: usize = 64;
 pub fn blank() -> Distances
     ensures { λ r. ⌜ Room r ⌝ }
 {
-    [0; 66]
+    [0; 65]
 }
 
 // Whether a node is in a set.
@@ -92,7 +92,7 @@ pub fn neighbours(edges: &[u16], values: &[i8], side: Side) -> [u64; 64]
 }
 
 // Gives each node of the set `new` its count and a place in the queue, whose first `tail` places are used. Returns the queue's new end.
-fn visit(new: u64, count: u32, tail: usize, counts: &mut Distances, queue: &mut [u8; 64]) -> usize
+fn visit(new: u64, count: u64, tail: usize, counts: &mut Distances, queue: &mut [u8; 64]) -> usize
     requires { ⌜ Room (now counts) ⌝ }
     requires { ⌜ length (now queue) ≡ 64 ⌝ }
     requires { ⌜ tail + size new ≤ 64 ⌝ }
@@ -108,15 +108,6 @@ fn visit(new: u64, count: u32, tail: usize, counts: &mut Distances, queue: &mut 
         rest = rest & (rest - 1);
     }
     end
-}
-
-// Puts the set of the nodes that are reached behind the distances.
-fn put_reached(reached: u64, distances: &mut Distances)
-    requires { ⌜ Room (now distances) ⌝ }
-    ensures { λ _. ⌜ Laid reached (now (distances .entry)) (now (distances .exit)) ⌝ }
-{
-    distances[REACHED] = (reached % 4294967296) as u32;
-    distances[REACHED + 1] = (reached / 4294967296) as u32;
 }
 
 // The hops from `source` to every node, breadth first.
@@ -139,7 +130,7 @@ pub fn walk(neighbours: &[u64; 64], source: usize, counts: &mut Distances)
         reached = reached | new;
         head += 1;
     }
-    put_reached(reached, counts);
+    counts[REACHED] = reached;
 }
 
 // The distances from `source` in the under graph or in the over graph, by hops or by length.
@@ -171,12 +162,6 @@ pub fn distances_by(
     }
 }
 
-fn from_word(x: u32) -> u64
-    ensures { λ r. ⌜ r ≡ x ⌝ }
-{
-    x as u64
-}
-
 fn widened(bound: u16) -> u64
     ensures { λ r. ⌜ r ≡ bound ⌝ }
 {
@@ -188,8 +173,7 @@ pub fn is_reached(distances: &Distances, node: usize) -> bool
     requires { ⌜ node < 64 ⌝ }
     ensures { λ r. ⌜ r ≡ reachedIn (now (distances .entry)) node ⌝ }
 {
-    let at = REACHED + node / 32;
-    has(from_word(distances[at]), node % 32)
+    has(distances[REACHED], node)
 }
 
 // The distance of a node that is reached.
@@ -197,17 +181,18 @@ pub fn distance(distances: &Distances, node: usize) -> u64
     requires { ⌜ node < 64 ⌝ }
     ensures { λ r. ⌜ r ≡ distanceIn (now (distances .entry)) node ⌝ }
 {
-    from_word(distances[node])
+    distances[node]
 }
 
 // Whether a kind allows a distance, with this bound.
 fn allows(kind: Kind, bound: u16, distance: u64) -> bool
     ensures { λ r. ⌜ (T r ↔ Allows kind bound distance) ⌝ }
 {
+    let within = distance <= widened(bound);
     match kind {
         Kind::Reaches => true,
-        Kind::Within => distance <= widened(bound),
-        Kind::LengthAtMost => distance <= widened(bound),
+        Kind::Within => within,
+        Kind::LengthAtMost => within,
     }
 }
 

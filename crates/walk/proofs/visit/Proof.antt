@@ -6,6 +6,7 @@ use native.Mathlib.Omega.{arith}
 use lib.Bits.{bitAnd}
 use lib.ListN.{length, length-set}
 use lib.Count.{trailingZeros}
+use Rattle.walk.specs.Walking.{Room}
 use Rattle.walk.specs.Front.{size, Visited}
 use Rattle.walk.proofs.Sets.{less-lowest, size-less, Taken, taken}
 use Rattle.walk.proofs.Visits.{visited-none, visited-more}
@@ -14,7 +15,7 @@ use Rattle.walk.proofs.visit.Tie as tie
 
 abbrev Inv-loop : tie.InvT-loop
 Inv-loop new count tail counts₀ queue₀ rest₀ end₀ counts queue rest end =
-    (end + size rest ≤ 64) × (rest < 2 ^ 64) × (length counts ≡ 66) × (length queue ≡ 64)
+    (end + size rest ≤ 64) × (rest < 2 ^ 64) × Room counts × (length queue ≡ 64)
     × ((e : ℕ) (C Q : List ℕ) → Visited rest count end counts queue e C Q → Visited new count tail counts₀ queue₀ e C Q)
 
 abbrev μ-loop : tie.MeasureT-loop

@@ -4,6 +4,7 @@ use Prim.Native.Nat.{_-_, _≤_}
 use native.Mathlib.Numerals.{add-one}
 use native.Mathlib.Omega.{arith}
 use borrow.Author.Needs.{needs}
+use lib.ListN.{length-set}
 use Rattle.walk.proofs.Sets.{one-shifted}
 use Rattle.walk.proofs.Breadth.{Bfs, tail-le, node-in, count-in, begin, room-for, turn, table}
 use Rattle.walk.proofs.walk.Statement.{statement}
@@ -79,17 +80,15 @@ loop-again c =
     let v = c .visit .ensures in
     (omega (arith, v .ends), turn _ _ _ _ _ _ _ (its c .loop .inv .1) (c .before .before .before .before .before .loop-test .taken) _ _ refl refl _ _ _ _ (add-one _) v)
 
-put-reached-requires : tie.Need-put-reached-requires Inv-loop μ-loop
-put-reached-requires c κs = c .before .before .loop .inv .1 .numbered
+element-write-counts-2 : tie.Need-element-write-counts-2 Inv-loop μ-loop
+element-write-counts-2 c = omega arith
 
 returns : tie.Need-returns Inv-loop μ-loop
 returns c =
-    let l = c .before .before .before in
+    let l = c .before in
     let e : l .loop .head ≡ l .loop .tail = omega arith in
-    record {
-      table = λ es g inside n. table _ _ (l .before .pre .0) es g inside n _ _ _ _ (rw e at (l .loop .inv .1)) _ (c .put-reached .ensures);
-      room = c .put-reached .ensures .long ∙ l .loop .inv .1 .numbered;
-    }
+    let b = rw e at (l .loop .inv .1) in
+    record { table = λ es g inside n. table _ _ (l .before .pre .0) es g inside n _ _ _ _ b; room = length-set (l .loop .counts) 64 (l .loop .reached) ∙ b .numbered }
 
 pub walk-spec : {M : Type 1} → statement M
 walk-spec =
@@ -114,5 +113,5 @@ walk-spec =
     add-head
     loop-less
     loop-again
-    put-reached-requires
+    element-write-counts-2
     returns)

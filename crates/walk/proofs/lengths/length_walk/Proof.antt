@@ -3,6 +3,7 @@ use mathlib.Core.Path.{_∙_}
 use Prim.Native.Nat.{_-_, _^_, _<_}
 use native.Mathlib.Omega.{arith}
 use borrow.Author.Needs.{needs}
+use lib.ListN.{length-set}
 use lib.Bits.{bitOr}
 use Rattle.plan.specs.Meaning.{Graph}
 use Rattle.plan.specs.Tables.{edgesOf}
@@ -70,16 +71,13 @@ loop-again c = λ g h.
     rw (one-shifted _ (node-in (own l) n))
     (turn (l .loop .inv g h) n (c .relax .ensures g h) f (length-fits (start l .args .edges .now) (λ i. omega (arith, l .before .shared-slice-known .given i))))
 
-put-reached-requires : tie.Need-put-reached-requires Inv-loop μ-loop
-put-reached-requires c κs = own (c .before .before) .long
+element-write-distances-2 : tie.Need-element-write-distances-2 Inv-loop μ-loop
+element-write-distances-2 c = omega arith
 
 returns : tie.Need-returns Inv-loop μ-loop
 returns c =
-    let l = c .before .before .before in
-    record {
-      table = λ g h. table (rw (c .before .before .loop-test .left) at (l .loop .inv g h)) (c .put-reached .ensures);
-      room = c .put-reached .ensures .long ∙ own l .long;
-    }
+    let l = c .before in
+    record { table = λ g h. table (rw (c .loop-test .left) at (l .loop .inv g h)); room = length-set (l .loop .distances) 64 (l .loop .known) ∙ own l .long }
 
 pub length-walk-spec : {M : Type 1} → statement M
 length-walk-spec =
@@ -96,5 +94,5 @@ length-walk-spec =
     shl-done
     loop-less
     loop-again
-    put-reached-requires
+    element-write-distances-2
     returns)
