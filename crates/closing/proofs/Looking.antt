@@ -95,8 +95,8 @@ verdict false false φ v A d y k = ((λ z x. y (φ .edges) _ k .1 x), (λ x. tt)
 
 -- one atom
 module _ (φ : PlanFile) (ok : Ranged φ) (A : Atom) (m : List·Memᴰ A (φ .atoms)) (b : Bool) (v₀ v w : List ℤ) (s : Assigned (φ .variables) v) where
-  pub looks-silent : (Settles φ (trueIn v₀) A b → ⊥) → Looks φ (Heard φ b v₀ v A) v v Still
-  looks-silent n = record { onward = onward-none φ v s; tells = (refl, λ x. absurd (n x)) }
+  pub looks-silent : (Q : Type 0) → (Q → Settles φ (trueIn v₀) A b → ⊥) → Looks φ (Q → Heard φ b v₀ v A) v v Still
+  looks-silent Q n = record { onward = onward-none φ v s; tells = (refl, λ q x. absurd (n q x)) }
 
   module _ (sub : trueIn v₀ ⊆ trueIn v) (x : Settles φ (trueIn v₀) A b) where
     abbrev l : ℤ
@@ -208,17 +208,17 @@ sweep-start Q b v φ f = record { onward = onward-none φ v (f .shape); tells = 
 
 -- the atom numbered `at`, by distances in the graph that settles the verdict
 pub sweep-one : (Q : ℕ → Type 0) {es bs : List ℕ} (b : Bool) (v₀ v w : List ℤ) (count at : ℕ) (d : List ℕ) (a r : Step) → length bs ≡ count * 5 → at < count
-    → ((φ : PlanFile) → HasTables es bs v₀ φ → Settling (φ .edges) v₀ (atom (atomsOf bs) at) b d)
-    → Told b (atom (atomsOf bs) at) d v w r → Sweeps Q es bs b v₀ v at a → Sweeps Q es bs b v₀ w (at + 1) (andThen a r)
+    → (Q at → (φ : PlanFile) → HasTables es bs v₀ φ → Settling (φ .edges) v₀ (atom (atomsOf bs) at) b d)
+    → Told (Q at) b (atom (atomsOf bs) at) d v w r → Sweeps Q es bs b v₀ v at a → Sweeps Q es bs b v₀ w (at + 1) (andThen a r)
 sweep-one Q {es} {bs} b v₀ v w count at d a r l h k t x φ f =
     let y = x φ f in
     looks-then φ (HeardTo Q φ b v₀ w (at + 1)) v₀ v w (f .shape) a r y
-    (t φ (f .ranged) (y .onward .shape) (listed count at l h f) v₀ (y .onward .above) (k φ f))
+    (t φ (f .ranged) (y .onward .shape) (listed count at l h f) v₀ (y .onward .above) (λ q. k q φ f))
     (λ o old new j q. pick o old new j q (le-or-lt at j))
   where
-    pick : Onward φ v w → HeardTo Q φ b v₀ v at → Heard φ b v₀ w (atom (atomsOf bs) at)
+    pick : Onward φ v w → HeardTo Q φ b v₀ v at → (Q at → Heard φ b v₀ w (atom (atomsOf bs) at))
         → (j : ℕ) → j < at + 1 → (at ≤ j) ⊎ (j < at) → Q j → Heard φ b v₀ w (atom (φ .atoms) j)
-    pick o old new j q (inl p) i = let e : at ≡ j = omega arith in subst (λ As. Heard φ b v₀ w (atom As j)) (sym (f .atoms)) (subst (λ n. Heard φ b v₀ w (atom (atomsOf bs) n)) e new)
+    pick o old new j q (inl p) i = let e : at ≡ j = omega arith in subst (λ As. Heard φ b v₀ w (atom As j)) (sym (f .atoms)) (subst (λ n. Q n → Heard φ b v₀ w (atom (atomsOf bs) n)) e new i)
     pick o old new j q (inr p) i = heard-on φ b v₀ v w (atom (φ .atoms) j) o (old j p i)
 
 -- distances by the neighbours in the graph that settles the verdict, for an atom that counts hops

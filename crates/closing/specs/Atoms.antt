@@ -1,7 +1,7 @@
 -- What a look at the atoms does: each is asked for a verdict, that it holds (true) or fails (false).
 -- Assumes nothing.
 use mathlib.Core.Path.{_≡_}
-use mathlib.Core.Bool.{Bool, true, false}
+use mathlib.Core.Bool.{Bool}
 use mathlib.Core.List.{List, List·Memᴰ}
 use Prim.Native.Nat.{ℕ, _*_, _<_, _≤_}
 use lib.ListN.{length}
@@ -76,10 +76,10 @@ HeardOf Q φ b v w = (j : ℕ) → j < length (φ .atoms) → Q j → Heard φ b
 abbrev pub BothHeard : PlanFile → List ℤ → List ℤ → Type 0
 BothHeard φ v w = (b : Bool) → AllHeard φ b v w
 
--- One atom, by the distances in a graph of an assignment below v.
-abbrev pub Told : Bool → Atom → List ℕ → List ℤ → List ℤ → Step → Type 0
-Told b A d v w r = (φ : PlanFile) → Ranged φ → Assigned (φ .variables) v → List·Memᴰ A (φ .atoms)
-    → (v₀ : List ℤ) → trueIn v₀ ⊆ trueIn v → Settling (φ .edges) v₀ A b d → Looks φ (Heard φ b v₀ w A) v w r
+-- One atom, heard if Q, by distances that then are those in a graph of an assignment below v.
+abbrev pub Told : Type 0 → Bool → Atom → List ℕ → List ℤ → List ℤ → Step → Type 0
+Told Q b A d v w r = (φ : PlanFile) → Ranged φ → Assigned (φ .variables) v → List·Memᴰ A (φ .atoms)
+    → (v₀ : List ℤ) → trueIn v₀ ⊆ trueIn v → (Q → Settling (φ .edges) v₀ A b d) → Looks φ (Q → Heard φ b v₀ w A) v w r
 
 -- Those numbers that have the property Q, for one verdict and for both; then all atoms.
 abbrev pub Looked : (ℕ → Type 0) → List ℕ → List ℕ → Bool → List ℤ → List ℤ → Step → Type 0

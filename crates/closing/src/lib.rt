@@ -89,11 +89,11 @@ fn is_due(atoms: &[u16], at: usize, others: u64, holds: bool, values: &[i8]) -> 
     requires { ⌜ AtomReady (now values) (atom (atomsOf (now atoms)) at) ⌝ }
     ensures { λ r. ⌜ (T r ↔ Due others (now (atoms .entry)) holds (now (values .entry)) at) ⌝ }
 {
-    if walk::has(others, at) {
+    let atom = plan::atom_at(atoms, at);
+    if plan::is_set_to(values, atom.variable, holds) {
         return false;
     }
-    let atom = plan::atom_at(atoms, at);
-    !plan::is_set_to(values, atom.variable, holds)
+    !walk::has(others, at)
 }
 
 // The first atom from `k` on, not one of `others`, whose literal is not there yet; `count` if there is none.
@@ -120,12 +120,24 @@ fn next_to_say(
     at
 }
 
-// Asks one atom for a verdict, by the distances from its source in the graph that settles it.
-fn look_at(atom: Atom, distances: &Distances, holds: bool, values: &mut [i8]) -> Step
+// Asks one atom, numbered `at`, for a verdict, by the distances from its source in the graph that settles it. One of `others` says nothing; whether it is
+// one is asked last, where a literal would be given, since few atoms come that far.
+fn look_at(
+    atom: Atom,
+    at: usize,
+    others: u64,
+    distances: &Distances,
+    holds: bool,
+    values: &mut [i8],
+) -> Step
+    requires { ⌜ at < 64 ⌝ }
     requires { ⌜ AtomReady (now values) (atomOf atom) ⌝ }
-    ensures { λ r. ⌜ Told holds (atomOf atom) (now (distances .entry)) (now (values .entry)) (now (values .exit)) r ⌝ }
+    ensures { λ r. ⌜ Told (Outside others at) holds (atomOf atom) (now (distances .entry)) (now (values .entry)) (now (values .exit)) r ⌝ }
 {
     if walk::is_true(atom, distances) != holds {
+        return Step::Still;
+    }
+    if walk::has(others, at) {
         return Step::Still;
     }
     give(values, given(atom, holds))
@@ -156,20 +168,17 @@ fn look_for(
     walk::walk(&sets, plan::wide(source), &mut distances);
     let mut step = Step::Still;
     while at < count {
-        let atom = plan::atom_at(atoms, at);
-        let other = walk::has(lengths, at);
+        let number = at;
+        let atom = plan::atom_at(atoms, number);
         at += 1;
-        if other {
-            continue;
-        }
         if atom.from != source {
-            if plan::is_set_to(values, atom.variable, holds) {
+            if !is_due(atoms, number, lengths, holds, values) {
                 continue;
             }
             source = atom.from;
             walk::walk(&sets, plan::wide(source), &mut distances);
         }
-        let told = look_at(atom, &distances, holds, values);
+        let told = look_at(atom, number, lengths, &distances, holds, values);
         match told {
             Step::Clash => {
                 return Step::Clash;

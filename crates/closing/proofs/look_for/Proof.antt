@@ -1,27 +1,28 @@
 -- `closing::look_for`: the atoms before the place that count hops are heard without a clash, and the distances are those from the source in the graph that settles the verdict.
 use mathlib.Core.Path.{_≡_, refl, sym, ap, _∙_, subst}
 use mathlib.Core.Logic.{⊎-elim}
-use mathlib.Core.Bool.{true}
 use mathlib.Core.List.{List}
-use Prim.Native.Nat.{ℕ, _+_, _-_, _≤_, _<_}
+use Prim.Native.Nat.{ℕ, _+_, _*_, _-_, _≤_, _<_}
 use native.Mathlib.Omega.{arith}
 use borrow.Author.Needs.{needs}
+use borrow.Author.Tests.{not-true}
+use lib.ListN.{length}
 use lib.IntN.{ℤ}
 use lib.Dec.{T}
-use Rattle.plan.specs.Meaning.{Atom, atom, measureOf, literalOf, trueIn}
+use Rattle.plan.specs.Meaning.{Atom, atom, measureOf}
 use Rattle.plan.specs.Places.{First}
 use Rattle.plan.specs.Tables.{atomOf, atomsOf}
 use Rattle.plan.specs.declared.Measure.the-variants.{Hops}
 use Rattle.plan.proofs.Places.{without-none, without-more}
 use Rattle.walk.specs.Walking.{Walked}
-use Rattle.walk.proofs.Truths.{so, not-so}
+use Rattle.walk.proofs.Truths.{not-so}
 use Rattle.walk.proofs.Asked.{by-hops}
 use Rattle.unit.specs.Onward.{Onward}
 use Rattle.closing.specs.Closed.{isClash, andThen}
 use Rattle.closing.specs.Atoms.{AtomReady, Ready, Outside, Due, Told}
 use Rattle.closing.specs.declared.Step.{Step}
 use Rattle.closing.specs.declared.Step.the-variants.{Clash, Set, Still}
-use Rattle.closing.proofs.Looking.{same-literal, ready-on, ready-atoms, ready-inside, ready-placed, then-clash, then-set, then-still, looks-clash, Sweeps, sweep-start, sweep-past, sweep-one, sweep-end, settles-by}
+use Rattle.closing.proofs.Looking.{ready-on, ready-atoms, ready-inside, ready-placed, then-clash, then-set, then-still, looks-clash, Sweeps, sweep-start, sweep-past, sweep-one, sweep-end, settles-by}
 use Rattle.closing.proofs.look_for.Statement.{statement}
 use Rattle.closing.proofs.look_for.Tie as tie
 
@@ -137,29 +138,26 @@ module _ (c : tie.After-atom-at2 Inv-loop μ-loop) where
   on : turn .loop .at + 1 ≤ begun turn .args .count
   on = omega (arith, its-place)
 
-has-requires : tie.Need-has-requires Inv-loop μ-loop
-has-requires c κs = omega (arith, begun (turn c) .pre .1 .few, its-place c)
+  few : turn .loop .at < 64
+  few = omega (arith, begun turn .pre .1 .few, its-place)
 
--- it counts lengths
+  its-row : turn .loop .at * 5 + 4 < length (table turn)
+  its-row = omega (arith, begun turn .pre .0 .long, its-place)
+
+is-due-requires : tie.Need-is-due-requires Inv-loop μ-loop
+is-due-requires c κs = let a = c .before .before .before in (few a, (its-row a, this-ready a))
+
+-- it is not due
+module _ (c : tie.After-is-due Inv-loop μ-loop) where
+  abbrev asked : tie.After-atom-at2 Inv-loop μ-loop
+  asked = c .before .before .before .before
+
 loop-again : tie.Need-loop-again Inv-loop μ-loop
 loop-again c =
-    let a = c .before .before in
+    let x = c .before in
+    let a = asked x in
     let i = turn a .loop .inv in
-    (on a, i .1, i .2, past a (λ d. d .0 (so (c .before .has .ensures) (c .if2 .taken))))
-
--- its literal is there
-module _ (c : tie.After-is-set-to Inv-loop μ-loop) where
-  abbrev asked : tie.After-atom-at2 Inv-loop μ-loop
-  asked = c .before .before .before .before .before .before
-
-  there : c .is-set-to .result ≡ true → T (trueIn (turn asked .loop .values) (literalOf (begun (turn asked) .args .holds) (this asked .variable)))
-  there = so (c .is-set-to .ensures ∙ same-literal (turn asked .loop .values) (begun (turn asked) .args .holds) _ _ (asked .atom-at2 .ensures))
-
-loop-again-2 : tie.Need-loop-again-2 Inv-loop μ-loop
-loop-again-2 c =
-    let a = asked (c .before) in
-    let i = turn a .loop .inv in
-    (on a, i .1, i .2, past a (λ d. d .1 (there (c .before) (c .if4 .taken))))
+    (on a, i .1, i .2, past a (λ d. not-so {r = x .is-due .result} refl (not-true _ (c .if3 .taken)) (x .is-due .ensures .1 d)))
 
 walk-requires-2 : tie.Need-walk-requires-2 Inv-loop μ-loop
 walk-requires-2 c κs =
@@ -170,45 +168,45 @@ walk-requires-2 c κs =
 walked-as : (sets : List ℕ) (s t : ℕ) (d e : List ℕ) → s ≡ t → d ≡ e → Walked sets t e → Walked sets s d
 walked-as sets s t d e p q w = rw (p, q) w
 
-module _ (c : tie.Joined3 Inv-loop μ-loop) where
+module _ (c : tie.Joined2 Inv-loop μ-loop) where
   abbrev seen : tie.After-atom-at2 Inv-loop μ-loop
-  seen = c .before .before .before .before
+  seen = c .before .before
 
-  in-hops : measureOf (this seen .kind) ≡ Hops
-  in-hops = by-hops (turn seen .loop .at) (begun (turn seen) .pre .1) (its-place seen) (not-so (c .before .before .before .has .ensures) (c .before .before .if2 .left))
+  in-hops : hops (found (sets (turn seen))) (turn seen .loop .at) → measureOf (this seen .kind) ≡ Hops
+  in-hops = by-hops (turn seen .loop .at) (begun (turn seen) .pre .1) (its-place seen)
 
-  walked : Walked (sets (turn seen) .neighbours .result) (c .if3 .source) (c .if3 .distances)
+  walked : Walked (sets (turn seen) .neighbours .result) (c .if2 .source) (c .if2 .distances)
   walked =
       let n = sets (turn seen) .neighbours .result in
       ⊎-elim (λ w. walked-as n _ _ _ _ (w .8 ∙ sym (w .5 .ensures)) (w .9) (w .7 .ensures))
-      (λ w. walked-as n _ _ _ _ (w .1) (w .2) (turn seen .loop .inv .1)) (c .if3 .came)
+      (λ w. walked-as n _ _ _ _ (w .1) (w .2) (turn seen .loop .inv .1)) (c .if2 .came)
 
-  source-is : c .if3 .source ≡ this seen .from
-  source-is = ⊎-elim (λ w. w .8 ∙ from-is seen) (λ w. w .1 ∙ sym (w .0 .left) ∙ from-is seen) (c .if3 .came)
+  source-is : c .if2 .source ≡ this seen .from
+  source-is = ⊎-elim (λ w. w .8 ∙ from-is seen) (λ w. w .1 ∙ sym (w .0 .left) ∙ from-is seen) (c .if2 .came)
 
 -- the look at it
 module _ (c : tie.After-look-at Inv-loop μ-loop) where
-  abbrev joined : tie.Joined3 Inv-loop μ-loop
+  abbrev joined : tie.Joined2 Inv-loop μ-loop
   joined = c .before .before .before
 
   abbrev its : tie.At-loop Inv-loop μ-loop
   its = turn (seen joined)
 
   abbrev after : List ℤ
-  after = c .look-at .last .1 .1 .1 .0
+  after = c .look-at .last .1 .1 .1 .1 .1 .0
 
   swept : (z : Step) → andThen (its .loop .step) (c .look-at .result) ≡ z
       → Sweeps (hops (found (sets its))) (begun its .args .edges .now) (table its) (begun its .args .holds) (given (found (sets its))) after (its .loop .at + 1) z
   swept z e =
       let n = sets its in
       let b = begun its in
-      let d = joined .if3 .distances in
+      let d = joined .if2 .distances in
       let r = c .look-at .result in
       subst (λ z. Sweeps (hops (found n)) (b .args .edges .now) (table its) (b .args .holds) (given (found n)) after (its .loop .at + 1) z) e
       (sweep-one (hops (found n)) (b .args .holds) (given (found n)) (its .loop .values) after (b .args .count) (its .loop .at) d (its .loop .step) r (b .pre .0 .long) (its-place (seen joined))
-      (settles-by (b .args .holds) (given (found n)) (n .before .settling-side .result) (n .neighbours .result) (this (seen joined)) (joined .if3 .source) d
-      (n .before .settling-side .ensures) (in-hops joined) (ready-inside (b .pre .0)) (n .neighbours .ensures) (walked joined) (source-is joined))
-      (subst (λ A. Told (b .args .holds) A d (its .loop .values) after r) (seen joined .atom-at2 .ensures) (c .look-at .ensures)) (its .loop .inv .3))
+      (λ q. settles-by (b .args .holds) (given (found n)) (n .before .settling-side .result) (n .neighbours .result) (this (seen joined)) (joined .if2 .source) d
+      (n .before .settling-side .ensures) (in-hops joined q) (ready-inside (b .pre .0)) (n .neighbours .ensures) (walked joined) (source-is joined))
+      (subst (λ A. Told (hops (found n) (its .loop .at)) (b .args .holds) A d (its .loop .values) after r) (seen joined .atom-at2 .ensures) (c .look-at .ensures)) (its .loop .inv .3))
 
   kept : Onward (begun its .pre .0 .file) (given (found (sets its))) after
   kept = swept _ refl (begun its .pre .0 .file) (begun its .pre .0 .has) .onward
@@ -218,13 +216,13 @@ returns-2 c = λ φ f.
     let d = c .before .before .before in
     looks-clash φ (given (found (sets (its d)))) (after d) Clash tt (swept d Clash (then-clash (its d .loop .step) _ (c .enum-told .given .1)) φ f)
 
-loop-again-3 : tie.Need-loop-again-3 Inv-loop μ-loop
-loop-again-3 c =
+loop-again-2 : tie.Need-loop-again-2 Inv-loop μ-loop
+loop-again-2 c =
     let d = c .before .before .before in
     (on (seen (joined d)), walked (joined d), (λ t. t), swept d Set (then-set (its d .loop .step) _ (its d .loop .inv .2) (c .enum-told2 .given .1)))
 
-loop-again-4 : tie.Need-loop-again-4 Inv-loop μ-loop
-loop-again-4 c =
+loop-again-3 : tie.Need-loop-again-3 Inv-loop μ-loop
+loop-again-3 c =
     let d = c .before .before .before in
     (on (seen (joined d)), walked (joined d), its d .loop .inv .2, swept d (its d .loop .step) (then-still (its d .loop .step) _ (c .enum-told3 .given .1)))
 
@@ -241,16 +239,16 @@ same-length-3 : tie.Need-same-length-3 Inv-loop μ-loop
 same-length-3 c = so-far (c .before) .shape .long ∙ sym (begun (c .before) .pre .0 .has .shape .long)
 
 add-at : tie.Need-add-at Inv-loop μ-loop
-add-at c = let h = its-place (c .before) in let f = begun (turn (c .before)) .fits .count in search needs
+add-at c = let h = its-place c in let f = begun (turn c) .fits .count in search needs
 
 pub look-for-spec : {M : Type 1} → statement M
 look-for-spec =
     tie.close
     (tie.spec
     Inv-loop μ-loop (λ c κs. let p = c .before .before .before .pre in (ready-atoms (p .0), (p .1 .few, omega arith))) (λ c. search needs) returns (λ c κs. tt) neighbours-requires atom-at-requires (λ c κs. tt) (λ c κs. tt) walk-requires loop-holds
-    (λ c κs. omega (arith, begun (c .before) .pre .0 .long, c .loop-test .taken)) has-requires add-at (λ c. less (c .before .before)) loop-again
-    (λ c κs. let f = atom-ready (c .before .before .before .before .before) .fits in (f .low, f .high)) (λ c. less (asked (c .before))) loop-again-2 (λ c κs. tt) walk-requires-2
-    (λ c κs. atom-ready (seen (c .before .before)))
+    (λ c κs. omega (arith, begun (c .before) .pre .0 .long, c .loop-test .taken)) add-at
+    is-due-requires (λ c. less (asked (c .before))) loop-again (λ c κs. tt) walk-requires-2
+    (λ c κs. let a = seen (c .before .before) in (few a, atom-ready a))
     (λ c. search needs) same-length-2 returns-2
-    (λ c. search needs) (λ c. less (seen (joined (c .before .before .before)))) loop-again-3
-    (λ c. search needs) (λ c. less (seen (joined (c .before .before .before)))) loop-again-4 same-length-3 returns-3)
+    (λ c. search needs) (λ c. less (seen (joined (c .before .before .before)))) loop-again-2
+    (λ c. search needs) (λ c. less (seen (joined (c .before .before .before)))) loop-again-3 same-length-3 returns-3)
