@@ -78,7 +78,7 @@ AllHaveBlocks As = (A : Atom) → List·Memᴰ A As → T (hasBlock (A .kind))
 abbrev pub firstUnwritten : List Atom → ℕ
 firstUnwritten As = firstNot (λ A. hasBlock (A .kind)) As
 
--- "L = n - 1 for kind 1, the lesser of bound and n - 1 for kind 2"; nothing asks for the levels of a kind without a block
+-- "L = n - 1 for kind 1, the lesser of bound and n - 1 for kind 2". A kind without a block has no levels; a file with such an atom is refused, not written.
 abbrev pub levelsOf : ℕ → Kind → ℕ → ℕ
 levelsOf n Reaches bound = n - 1
 levelsOf n Within bound = min bound (n - 1)

@@ -1,7 +1,6 @@
 -- `judge::walk_on`: what is known from one source serves the same source again.
 use mathlib.Core.Path.{subst, sym}
 use Prim.Native.Nat.{ℕ}
-use borrow.Author.Needs.{needs}
 use Rattle.walk.specs.Walking.{Walked}
 use Rattle.judge.proofs.walk_on.Statement.{statement}
 use Rattle.judge.proofs.walk_on.Tie as tie
