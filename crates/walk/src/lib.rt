@@ -75,8 +75,8 @@ fn add_edge(edges: &[u16], values: &[i8], side: Side, k: usize, sets: &mut [u64;
     sets[from] = sets[from] | (1u64 << to);
 }
 
-// The set of nodes that each node leads to in one hop, in the under graph or in the over graph.
-pub fn neighbours(edges: &[u16], values: &[i8], side: Side) -> [u64; 64]
+// The set of nodes that each node leads to in one hop, edge by edge.
+fn filled(edges: &[u16], values: &[i8], side: Side) -> [u64; 64]
     requires { ⌜ Inside (edgesOf (now edges)) ⌝ }
     requires { ⌜ Placed (edgesOf (now edges)) (length (now values)) ⌝ }
     ensures { λ r. ⌜ Neighbours (edgesOf (now (edges .entry))) (graphOf side (trueIn (now (values .entry)))) r ⌝ }
@@ -89,6 +89,19 @@ pub fn neighbours(edges: &[u16], values: &[i8], side: Side) -> [u64; 64]
         k += 1;
     }
     sets
+}
+
+// The set of nodes that each node leads to in one hop, in the under graph or in the over graph. Each graph is named by itself, so that it gets a loop of its
+// own, which knows with what to compare an edge's value.
+pub fn neighbours(edges: &[u16], values: &[i8], side: Side) -> [u64; 64]
+    requires { ⌜ Inside (edgesOf (now edges)) ⌝ }
+    requires { ⌜ Placed (edgesOf (now edges)) (length (now values)) ⌝ }
+    ensures { λ r. ⌜ Neighbours (edgesOf (now (edges .entry))) (graphOf side (trueIn (now (values .entry)))) r ⌝ }
+{
+    match side {
+        Side::Under => filled(edges, values, Side::Under),
+        Side::Over => filled(edges, values, Side::Over),
+    }
 }
 
 // Gives each node of the set `new` its count and a place in the queue, whose first `tail` places are used. Returns the queue's new end.
