@@ -97,7 +97,8 @@ fn is_better(known: u64, node: usize, distance: u64, distances: &Distances) -> b
     distance < distances[node]
 }
 
-// Takes an edge that starts `near` away: its end gets the distance over it, where that is the first or a smaller one.
+// Takes an edge that starts `near` away: its end gets the distance over it, where that is the first or a smaller one. It is written in either case: which of
+// the two it is can hardly be foreseen.
 fn lower(edge: Edge, near: u64, known: u64, distances: &mut Distances)
     requires { ⌜ edge .to < 64 ⌝ }
     requires { ⌜ near ≤ 64 * maxLength ⌝ }
@@ -106,9 +107,12 @@ fn lower(edge: Edge, near: u64, known: u64, distances: &mut Distances)
 {
     let to = wide(edge.to);
     let far = near + edge.length as u64;
-    if is_better(known, to, far, distances) {
-        distances[to] = far;
-    }
+    let best = if is_better(known, to, far, distances) {
+        far
+    } else {
+        distances[to]
+    };
+    distances[to] = best;
 }
 
 // Takes all edges that start at a node that is known. Returns the nodes that are known then.
