@@ -7,7 +7,7 @@ use mathlib.Core.List.{List}
 use Prim.Native.Nat.{ℕ, zero, suc, _+_, _-_, _^_, _<_, _≤_}
 use native.Mathlib.Decide.{decLt}
 use native.Mathlib.Omega.{arith}
-use lib.Bits.{bitAnd, bitOr, or-lt}
+use lib.Bits.{bitAnd, bitOr, or-lt, and-le-r}
 use lib.ListN.{length, getD, set, replicate, length-set}
 use lib.Seq.{getD-set-same}
 use lib.Arith.{lt-one}
@@ -18,7 +18,7 @@ use Rattle.plan.proofs.Bools.{T?, or-cases, or-left, or-right}
 use Rattle.plan.proofs.Walks.{its-in}
 use Rattle.walk.specs.Walking.{bit, Inside, Neighbours, DistanceTable, Room}
 use Rattle.walk.specs.Front.{size, Visited}
-use Rattle.walk.proofs.Sets.{bit-inside, bit-one, bit-or, bit-and-not, and-not-lt, size-or, size-one, size-le}
+use Rattle.walk.proofs.Sets.{bit-inside, bit-one, bit-or, bit-and-not, and-not-lt, size-or, size-one, size-le, or-apart}
 use Rattle.walk.proofs.Reach.{set-table}
 
 -- A walk from s over the sets of neighbours.
@@ -115,8 +115,11 @@ module _ (sets : List ℕ) (s reached : ℕ) (counts queue : List ℕ) (tail hea
   which w t = or-cases (bit w reached) (bit w new) (subst (λ x. T x) (bit-or w reached new) t)
 
   -- there is room in the queue
-  pub room-for : tail + size new ≤ 64
+  room-for : tail + size new ≤ 64
   room-for = omega (arith, b .many, size-or 64 reached new (λ i t n. fresh i n t), size-le 64 (bitOr reached new))
+
+  together : bitOr reached new ≡ reached + new
+  together = or-apart reached new small (λ i t n. fresh i n t)
 
   module _ (count end : ℕ) (counts′ queue′ : List ℕ) (is-count : count ≡ suc (getD counts node 0)) (v : Visited new count tail counts queue end counts′ queue′) where
     old-count : (w : ℕ) → T (bit w reached) → getD counts′ w 0 ≡ getD counts w 0
@@ -154,7 +157,7 @@ module _ (sets : List ℕ) (s reached : ℕ) (counts queue : List ℕ) (tail hea
     beside : (w : ℕ) → w < 64 → T (bit w (getD sets node 0)) → T (bit w (bitOr reached new))
     beside w l t = ⊎-elim (λ o. keeps w o) (λ n. gains w (split w l .1 (t, n))) (T? (bit w reached))
 
-    pub turn : Bfs sets s (bitOr reached new) counts′ queue′ end (head + 1)
+    turn : Bfs sets s (bitOr reached new) counts′ queue′ end (head + 1)
     turn = record {
       source = keeps s (b .source);
       begins = old-count s (b .source) ∙ b .begins;
@@ -191,6 +194,31 @@ module _ (sets : List ℕ) (s reached : ℕ) (counts queue : List ℕ) (tail hea
       numbered = v .numbered ∙ b .numbered;
       places = v .places ∙ b .places;
     }
+
+-- ---- the same by the nodes that are left: the new ones are among them, and are taken away
+
+module _ (sets : List ℕ) (s left : ℕ) (counts queue : List ℕ) (tail head : ℕ) (small : left < 2 ^ 64)
+    (b : Bfs sets s (2 ^ 64 - 1 - left) counts queue tail head) (room : head < tail) where
+  abbrev beside-head : ℕ
+  beside-head = getD sets (getD queue head 0) 0
+
+  is-left : bitAnd beside-head left ≡ bitAnd beside-head (2 ^ 64 - 1 - (2 ^ 64 - 1 - left))
+  is-left = ap (λ (x : ℕ). bitAnd beside-head x) (omega arith)
+
+  pub left-part : bitAnd beside-head left ≤ left
+  left-part = and-le-r beside-head left
+
+  pub left-room : tail + size (bitAnd beside-head left) ≤ 64
+  left-room = room-for sets s (2 ^ 64 - 1 - left) counts queue tail head b room (getD queue head 0) (bitAnd beside-head left) refl is-left
+
+  taken-away : bitOr (2 ^ 64 - 1 - left) (bitAnd beside-head left) ≡ 2 ^ 64 - 1 - (left - bitAnd beside-head left)
+  taken-away = together sets s (2 ^ 64 - 1 - left) counts queue tail head b room (getD queue head 0) (bitAnd beside-head left) refl is-left ∙ omega (arith, left-part)
+
+  pub left-turn : (count end : ℕ) (counts′ queue′ : List ℕ) → count ≡ suc (getD counts (getD queue head 0) 0) → Visited (bitAnd beside-head left) count tail counts queue end counts′ queue′
+      → Bfs sets s (2 ^ 64 - 1 - (left - bitAnd beside-head left)) counts′ queue′ end (head + 1)
+  left-turn count end counts′ queue′ e v =
+      subst (λ (x : ℕ). Bfs sets s x counts′ queue′ end (head + 1)) taken-away
+      (turn sets s (2 ^ 64 - 1 - left) counts queue tail head b room (getD queue head 0) (bitAnd beside-head left) refl is-left count end counts′ queue′ e v)
 
 -- ---- once the queue is used up
 

@@ -8,12 +8,12 @@ use native.Mathlib.Nat.{pow-suc, div-div-eq-div-mul, zero-min, min-zero}
 use native.Mathlib.Decide.{ℕ-discrete}
 use native.Mathlib.Omega.{arith}
 use borrow.Author.Tests.{eq-eqb, ne-eqb}
-use lib.Bits.{bitAnd, bitOr, and-step, and-self, and-le-r, or-step}
+use lib.Bits.{bitAnd, bitOr, and-step, and-self, and-le-r, or-step, or-disjoint}
 use lib.Count.{trailingZeros, under}
 use lib.ListN.{getD, replicate}
 use lib.Dec.{T, eqb, eqb→eq, T-not, not-T}
 use lib.Pow.{pow-pos, pow-lt}
-use Rattle.plan.proofs.Bools.{or-cases, or-left, or-right, and-both, and-left, and-right}
+use Rattle.plan.proofs.Bools.{T-same, or-cases, or-left, or-right, and-both, and-left, and-right}
 use Rattle.walk.specs.Walking.{bit}
 use Rattle.walk.specs.Front.{sizeIn}
 
@@ -290,6 +290,13 @@ pub size-one : (k i : ℕ) → i < k → sizeIn k (2 ^ i) ≡ 1
 size-one k i l =
     let e : 2 ^ i - 2 ^ i ≡ 0 = omega arith in
     size-less k i (2 ^ i) l (bit-one i i .1 refl) ∙ ap (λ (y : ℕ). suc (sizeIn k y)) e ∙ ap suc (size-empty k)
+
+-- two sets without a common node, together
+pub or-apart : (a b : ℕ) → b < 2 ^ 64 → ((i : ℕ) → T (bit i a) → T (bit i b) → ⊥) → bitOr a b ≡ a + b
+or-apart a b fits apart = or-disjoint a b (bits-same 64 (bitAnd a b) 0 (omega (arith, and-le-r a b)) (omega arith) (λ i. T-same (bit i (bitAnd a b)) (bit i 0) (none i) (λ t. absurd (bit-empty i t))))
+  where
+    none : (i : ℕ) → T (bit i (bitAnd a b)) → T (bit i 0)
+    none i t = let u = subst (λ x. T x) (bit-and i a b) t in absurd (apart i (and-left (bit i a) (bit i b) u) (and-right (bit i a) (bit i b) u))
 
 -- a table of empty sets
 pub zeros : (n i : ℕ) → _≡_ {A = ℕ} (getD (replicate n 0) i 0) 0

@@ -123,13 +123,13 @@ fn visit(new: u64, count: u64, tail: usize, counts: &mut Distances, queue: &mut 
     end
 }
 
-// The hops from `source` to every node, breadth first.
+// The hops from `source` to every node, breadth first. What is left are the nodes that are not reached; new ones are among them, and are taken away.
 pub fn walk(neighbours: &[u64; 64], source: usize, counts: &mut Distances)
     requires { ⌜ source < 64 ⌝ }
     requires { ⌜ Room (now counts) ⌝ }
     ensures { λ _. ⌜ Walked (now (neighbours .entry)) source (now (counts .exit)) ⌝ }
 {
-    let mut reached = 1u64 << source;
+    let mut left = !(1u64 << source);
     counts[source] = 0;
     let mut queue: [u8; 64] = [0; 64];
     queue[0] = source as u8;
@@ -137,13 +137,13 @@ pub fn walk(neighbours: &[u64; 64], source: usize, counts: &mut Distances)
     let mut head = 0;
     while head < tail {
         let node = queue[head] as usize;
-        let new = neighbours[node] & !reached;
+        let new = neighbours[node] & left;
         let count = counts[node] + 1;
         tail = visit(new, count, tail, counts, &mut queue);
-        reached = reached | new;
+        left = left - new;
         head += 1;
     }
-    counts[REACHED] = reached;
+    counts[REACHED] = !left;
 }
 
 // The distances from `source` in the under graph or in the over graph, by hops or by length.

@@ -1,24 +1,25 @@
 -- `walk::walk`: nodes are taken from the queue in the order of their distance, so each node's first count is its distance.
-use mathlib.Core.Path.{_≡_, refl, _∙_}
-use Prim.Native.Nat.{_-_, _≤_}
+use mathlib.Core.Path.{_≡_, _∙_}
+use Prim.Native.Nat.{_-_, _^_, _<_, _≤_}
 use native.Mathlib.Numerals.{add-one}
 use native.Mathlib.Omega.{arith}
 use borrow.Author.Needs.{needs}
 use lib.ListN.{length-set}
+use lib.Pow.{pow-lt}
 use Rattle.walk.proofs.Sets.{one-shifted}
-use Rattle.walk.proofs.Breadth.{Bfs, tail-le, node-in, count-in, begin, room-for, turn, table}
+use Rattle.walk.proofs.Breadth.{Bfs, tail-le, node-in, count-in, begin, left-part, left-room, left-turn, table}
 use Rattle.walk.proofs.walk.Statement.{statement}
 use Rattle.walk.proofs.walk.Tie as tie
 
 abbrev Inv-loop : tie.InvT-loop
-Inv-loop neighbours source counts₀ reached₀ queue₀ tail₀ head₀ counts reached queue tail head =
-    (head ≤ tail) × Bfs neighbours source reached counts queue tail head
+Inv-loop neighbours source counts₀ left₀ queue₀ tail₀ head₀ counts left queue tail head =
+    (head ≤ tail) × (left < 2 ^ 64) × Bfs neighbours source (2 ^ 64 - 1 - left) counts queue tail head
 
 abbrev μ-loop : tie.MeasureT-loop
-μ-loop neighbours source counts₀ reached₀ queue₀ tail₀ head₀ counts reached queue tail head = 64 - head
+μ-loop neighbours source counts₀ left₀ queue₀ tail₀ head₀ counts left queue tail head = 64 - head
 
-shl-reached : tie.Need-shl-reached Inv-loop μ-loop
-shl-reached c = c .pre .0
+shl-left : tie.Need-shl-left Inv-loop μ-loop
+shl-left c = c .pre .0
 
 mul-counts : tie.Need-mul-counts Inv-loop μ-loop
 mul-counts c = omega (arith, c .pre .0)
@@ -33,41 +34,50 @@ array-write-queue : tie.Need-array-write-queue Inv-loop μ-loop
 array-write-queue c = search needs
 
 loop-holds : tie.Need-loop-holds Inv-loop μ-loop
-loop-holds c = (omega arith, begin _ (c .args .source) _ (c .args .counts .now) (c .pre .0) (c .pre .1) (one-shifted (c .args .source) (c .pre .0)))
+loop-holds c =
+    let e = one-shifted (c .args .source) (c .pre .0) in
+    let l = pow-lt (c .pre .0) in
+    (omega arith, omega arith, begin _ (c .args .source) _ (c .args .counts .now) (c .pre .0) (c .pre .1) (omega (arith, e, l)))
 
 array-read-node : tie.Need-array-read-node Inv-loop μ-loop
-array-read-node c = omega (arith, tail-le (c .before .loop .inv .1))
+array-read-node c = omega (arith, tail-le (c .before .loop .inv .2))
 
 cast-node : tie.Need-cast-node Inv-loop μ-loop
-cast-node c = omega (arith, node-in (c .before .loop .inv .1) (c .loop-test .taken))
+cast-node c = omega (arith, node-in (c .before .loop .inv .2) (c .loop-test .taken))
 
 mul-new : tie.Need-mul-new Inv-loop μ-loop
-mul-new c = omega (arith, node-in (c .before .loop .inv .1) (c .loop-test .taken))
+mul-new c = omega (arith, node-in (c .before .loop .inv .2) (c .loop-test .taken))
 
 element-copy-out-new : tie.Need-element-copy-out-new Inv-loop μ-loop
-element-copy-out-new c = node-in (c .before .loop .inv .1) (c .loop-test .taken)
+element-copy-out-new c = node-in (c .before .loop .inv .2) (c .loop-test .taken)
 
 mul-count : tie.Need-mul-count Inv-loop μ-loop
-mul-count c = omega (arith, node-in (c .before .before .loop .inv .1) (c .before .loop-test .taken))
+mul-count c = omega (arith, node-in (c .before .before .loop .inv .2) (c .before .loop-test .taken))
 
 element-copy-out-count : tie.Need-element-copy-out-count Inv-loop μ-loop
-element-copy-out-count c = omega (arith, node-in (c .before .before .loop .inv .1) (c .before .loop-test .taken))
+element-copy-out-count c = omega (arith, node-in (c .before .before .loop .inv .2) (c .before .loop-test .taken))
 
 add-count : tie.Need-add-count Inv-loop μ-loop
-add-count c = omega (arith, count-in (c .before .before .before .loop .inv .1) (c .before .before .loop-test .taken))
+add-count c = omega (arith, count-in (c .before .before .before .loop .inv .2) (c .before .before .loop-test .taken))
 
 visit-requires : tie.Need-visit-requires Inv-loop μ-loop
 visit-requires c κs =
-    let b = c .before .before .before .before .before .loop .inv .1 in
-    (b .numbered, (b .places, room-for _ _ _ _ _ _ _ b (c .before .before .before .before .loop-test .taken) _ _ refl refl))
+    let i = c .before .before .before .before .before .loop .inv in
+    (i .2 .numbered, (i .2 .places, left-room _ _ _ _ _ _ _ (i .1) (i .2) (c .before .before .before .before .loop-test .taken)))
 
 -- a turn, once the neighbours are visited
 module _ (c : tie.After-visit Inv-loop μ-loop) where
   abbrev its : tie.At-loop Inv-loop μ-loop
   its = c .before .before .before .before .before .before
 
+  room : its .loop .head < its .loop .tail
+  room = c .before .before .before .before .before .loop-test .taken
+
   tail-in : its .loop .tail ≤ 64
-  tail-in = tail-le (its .loop .inv .1)
+  tail-in = tail-le (its .loop .inv .2)
+
+sub-left : tie.Need-sub-left Inv-loop μ-loop
+sub-left c = let i = its c .loop .inv in left-part _ _ _ _ _ _ _ (i .1) (i .2) (room c)
 
 add-head : tie.Need-add-head Inv-loop μ-loop
 add-head c = omega (arith, tail-in c)
@@ -77,8 +87,9 @@ loop-less c = omega (arith, tail-in c)
 
 loop-again : tie.Need-loop-again Inv-loop μ-loop
 loop-again c =
+    let i = its c .loop .inv in
     let v = c .visit .ensures in
-    (omega (arith, v .ends), turn _ _ _ _ _ _ _ (its c .loop .inv .1) (c .before .before .before .before .before .loop-test .taken) _ _ refl refl _ _ _ _ (add-one _) v)
+    (omega (arith, v .ends), omega (arith, i .1), left-turn _ _ _ _ _ _ _ (i .1) (i .2) (room c) _ _ _ _ (add-one _) v)
 
 element-write-counts-2 : tie.Need-element-write-counts-2 Inv-loop μ-loop
 element-write-counts-2 c = omega arith
@@ -87,8 +98,8 @@ returns : tie.Need-returns Inv-loop μ-loop
 returns c =
     let l = c .before in
     let e : l .loop .head ≡ l .loop .tail = omega arith in
-    let b = rw e at (l .loop .inv .1) in
-    record { table = λ es g inside n. table _ _ (l .before .pre .0) es g inside n _ _ _ _ b; room = length-set (l .loop .counts) 64 (l .loop .reached) ∙ b .numbered }
+    let b = rw e at (l .loop .inv .2) in
+    record { table = λ es g inside n. table _ _ (l .before .pre .0) es g inside n _ _ _ _ b; room = length-set (l .loop .counts) 64 (2 ^ 64 - 1 - l .loop .left) ∙ b .numbered }
 
 pub walk-spec : {M : Type 1} → statement M
 walk-spec =
@@ -96,7 +107,7 @@ walk-spec =
     (tie.spec
     Inv-loop
     μ-loop
-    shl-reached
+    shl-left
     mul-counts
     element-write-counts
     cast-queue
@@ -110,6 +121,7 @@ walk-spec =
     element-copy-out-count
     add-count
     visit-requires
+    sub-left
     add-head
     loop-less
     loop-again
