@@ -9,7 +9,7 @@ use crate::parts::{edge_count, put_edge, put_gives, put_node, put_off, put_on, p
 use plan::{Atom, wide};
 
 // The first numbers of a level of a block: those of its R, of its T, and of the next level's R.
-#[derive(Drop)]
+#[derive(Clone, Copy)]
 pub struct Level {
     pub nodes: usize,
     pub edges: usize,

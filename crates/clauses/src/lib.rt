@@ -1,4 +1,6 @@
 // A plan file written out as clauses: its own, and behind them a block for each atom.
+#![tactic(auto)]
+
 mod block;
 mod parts;
 
@@ -16,7 +18,7 @@ pub use parts::edge_count;
 use plan::{Atom, Kind, Plan, atom_at, wide};
 
 // How much is written.
-#[derive(Drop)]
+#[derive(Clone, Copy)]
 pub struct Counts {
     pub variables: usize,
     pub clauses: usize,
@@ -24,7 +26,7 @@ pub struct Counts {
 }
 
 // What writing answers: the counts, or the length that the buffer lacks.
-#[derive(Drop)]
+#[derive(Clone, Copy)]
 pub enum Writing {
     Written(Counts),
     Short(usize),

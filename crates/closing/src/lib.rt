@@ -1,4 +1,6 @@
 // Closing an assignment: what the atoms say in the graph that settles it, and what the clauses give, in turn until nothing more is given.
+#![tactic(auto)]
+
 ghost use Rattle.std.specs.Prelude.{◌≡◌, ◌≤◌, length, ◌↔◌, ℕ, ◌+◌, ◌*◌, ◌<◌, T};
 ghost use Rattle.plan.specs.Places.{First};
 ghost use Rattle.plan.specs.Ranged.{LiteralFits, max_atoms, max_variables};
@@ -18,7 +20,7 @@ use plan::{Assignment, Atom, Edge, Plan};
 use walk::Distances;
 
 // What a look at the atoms, or a round, does to an assignment.
-#[derive(Drop)]
+#[derive(Clone, Copy)]
 pub enum Step {
     Clash,
     Set,

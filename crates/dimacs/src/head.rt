@@ -8,7 +8,7 @@ use crate::numbers::{Number, is_format, is_problem, number_in};
 use crate::words::{Found, Word, next_word};
 
 // The offset of the word `p`, the line's two numbers, and where its last word ends.
-#[derive(Drop)]
+#[derive(Clone, Copy)]
 pub struct Head {
     pub at: usize,
     pub variables: u32,
@@ -16,21 +16,21 @@ pub struct Head {
     pub end: usize,
 }
 
-#[derive(Drop)]
+#[derive(Clone, Copy)]
 pub enum Heading {
     Bad(usize),
     Good(Head),
 }
 
 // A word of the line, or the offset at which the text is bad.
-#[derive(Drop)]
+#[derive(Clone, Copy)]
 enum Field {
     Bad(usize),
     At(Word),
 }
 
 // A number not below 0 with the end of its word, or the offset at which the text is bad.
-#[derive(Drop)]
+#[derive(Clone, Copy)]
 enum Count {
     Bad(usize),
     Is(u32, usize),

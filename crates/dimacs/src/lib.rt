@@ -1,4 +1,6 @@
 // dimacs: clauses as DIMACS text: rules are read from it, and clauses are printed as it.
+#![tactic(auto)]
+
 mod head;
 mod numbers;
 mod printing;
@@ -20,7 +22,7 @@ pub use records::put_records;
 use rules::{Scanned, Tally, scan};
 
 // What reading rules answers: why they are refused, or how many clauses and literals stand in the table.
-#[derive(Drop)]
+#[derive(Clone, Copy)]
 pub enum RulesAnswer {
     Refused(Refusal),
     Read(usize, usize),

@@ -5,13 +5,13 @@ ghost use Rattle.dimacs.specs.Reading.{same, problem, format};
 ghost use Rattle.dimacs.specs.Scanning.{as_magnitude, as_number};
 
 // A number: whether it is below 0, and without its sign.
-#[derive(Drop)]
+#[derive(Clone, Copy)]
 pub enum Number {
     Bad,
     Is(bool, u32),
 }
 
-#[derive(Drop)]
+#[derive(Clone, Copy)]
 enum Size {
     Bad,
     Is(u32),

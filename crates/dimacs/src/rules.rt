@@ -14,7 +14,7 @@ use plan::{Clause, Plan, literal_of};
 
 // The clauses that are ended, and their literals. How many of them come before the first with which there are too many clauses or literals, and where that
 // one starts, if there is one. Of the clause that is not ended where it starts and how many literals it has.
-#[derive(Drop)]
+#[derive(Clone, Copy)]
 pub struct Tally {
     pub clauses: usize,
     pub literals: usize,
@@ -24,13 +24,13 @@ pub struct Tally {
     pub unended: usize,
 }
 
-#[derive(Drop)]
+#[derive(Clone, Copy)]
 enum Turn {
     Wrong,
     Goes(Tally),
 }
 
-#[derive(Drop)]
+#[derive(Clone, Copy)]
 pub enum Scanned {
     Bad(usize),
     Good(Tally),

@@ -4,21 +4,21 @@ ghost use Rattle.dimacs.specs.Words.{divides};
 ghost use Rattle.dimacs.specs.Scanning.{Skipped, Passed, Extended, FoundIs};
 
 // Where a word starts and ends, and whether it is the first of its line.
-#[derive(Drop)]
+#[derive(Clone, Copy)]
 pub struct Word {
     pub start: usize,
     pub end: usize,
     pub leads: bool,
 }
 
-#[derive(Drop)]
+#[derive(Clone, Copy)]
 pub enum Found {
     Next(Word),
     Nothing,
 }
 
 // An offset between two words, and whether the line has none yet.
-#[derive(Drop)]
+#[derive(Clone, Copy)]
 struct Gap {
     at: usize,
     leads: bool,

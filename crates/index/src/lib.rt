@@ -1,4 +1,6 @@
 // index: where each number of a clause table stands.
+#![tactic(auto)]
+
 ghost use Rattle.std.specs.Prelude.{◌≡◌, ◌<◌, ◌≤◌, nat_abs, get_or};
 ghost use Rattle.plan.specs.Ranged.{max_variables};
 ghost use Rattle.plan.specs.ClauseTable.{max_table};
@@ -7,7 +9,7 @@ ghost use Rattle.index.specs.Places.{slot, slot_behind, Indexable, Indexed};
 use plan::{Assignment, Clause};
 
 // Where the numbers of a clause table stand: each number's first place and, for each place, the next one that holds the same number.
-#[derive(Drop)]
+#[derive(Clone, Copy)]
 pub struct Index {
     pub places: [u16; Index::TABLE],
 }

@@ -1,4 +1,6 @@
 // judge: whether an assignment is a plan, and if not, the first thing that is wrong with it.
+#![tactic(auto)]
+
 ghost use Rattle.std.specs.Prelude.{◌≡◌, ◌↔◌, ◌*◌, ◌<◌, ◌≤◌, T, length};
 ghost use Rattle.plan.specs.Meaning.{Full, HasTrue};
 ghost use Rattle.plan.specs.Ranged.{max_variables, max_edges, max_atoms, LiteralsFit};
@@ -13,7 +15,7 @@ use plan::{Atom, Plan, Side};
 use walk::Distances;
 
 // What an assignment is: a plan, or the number of the first clause without a true literal, or of the first atom whose variable is wrong.
-#[derive(Drop)]
+#[derive(Clone, Copy)]
 pub enum Judgement {
     Plan,
     Clause(usize),
@@ -21,7 +23,7 @@ pub enum Judgement {
 }
 
 // Where the first element stands that is not as it should be, numbered from 1.
-#[derive(Drop)]
+#[derive(Clone, Copy)]
 pub enum First {
     Nowhere,
     At(usize),

@@ -2,6 +2,8 @@
 //
 // Standard input, numbers high byte first: the operation (1 byte), the repetitions (4) and a plan file, which is read once. It writes
 // one line with a sum over what was done, or `r NUMBER VALUE`.
+#![tactic(auto)]
+
 mod work;
 
 ghost use Rattle.plan.specs.Tables.{Lent};

@@ -2,6 +2,8 @@
 //
 // A request, numbers high byte first: the call (1 byte), the file's length (2) and the file, the assignment's length (2) and the
 // assignment (signed bytes) or the text, the atom (2), the budget (4) and the room (2), which is the length of the buffer that is lent.
+#![tactic(auto)]
+
 mod answers;
 mod numbers;
 
@@ -18,7 +20,7 @@ const MAX_ROOM: usize = 20480;
 const BEFORE: i8 = 77;
 
 // What a request holds beside the file and the assignment.
-#[derive(Drop)]
+#[derive(Clone, Copy)]
 struct Request {
     call: u8,
     atom: usize,

@@ -1,4 +1,6 @@
 // linkcnf: reads a plan file on standard input and writes it as clauses, one a line.
+#![tactic(auto)]
+
 use planner::WriteAnswer;
 use text::{INPUT, SIZE};
 

@@ -1,5 +1,7 @@
 // linkdimacs: reads a plan file on standard input and writes it as DIMACS text, part by part, so that the largest file needs no more room than
 // its largest block.
+#![tactic(auto)]
+
 ghost use Rattle.std.specs.Prelude.{◌≤◌, length};
 ghost use Rattle.plan.specs.Tables.{Lent};
 

@@ -1,5 +1,7 @@
 // linkplan: reads a plan file on standard input and writes its first plan, or that there is none, or that the budget did not
 // decide it.
+#![tactic(auto)]
+
 ghost use Rattle.std.specs.Prelude.{◌≤◌};
 
 use plan::Assignment;

@@ -1,4 +1,6 @@
 // linkrules: its argument names a plan file, and standard input has house rules for it as DIMACS text; it writes the plan file with the rules put in.
+#![tactic(auto)]
+
 ghost use Rattle.std.specs.Prelude.{◌≤◌, length};
 
 use plan::Clause;

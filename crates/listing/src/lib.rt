@@ -1,5 +1,7 @@
 // listing: a plan file written out as DIMACS text, whole or in parts. A part's clauses are made level by level in a small table of numbers, and printed
 // from there. Every printer prints as far as there is room, so a run over no buffer at all gives the length.
+#![tactic(auto)]
+
 mod block;
 
 ghost use Rattle.std.specs.Prelude.{◌≡◌, suc, ◌≤◌, ◌<◌, length, take};
@@ -16,7 +18,7 @@ use dimacs::{print_head, print_table};
 use plan::{Plan, atom_at, wide};
 
 // What printing answers: the bytes that were printed, or the length that the buffer lacks.
-#[derive(Drop)]
+#[derive(Clone, Copy)]
 pub enum Printing {
     Printed(usize),
     Short(usize),

@@ -10,7 +10,7 @@ use native.Mathlib.Omega.{arith}
 use lib.ListN.{length, get_or}
 use lib.IntN.{ℤ, pos, negsuc, nat_abs}
 use lib.Dec.{T, T_not, eqb, eqb→eq, eqb_refl, ltb, ltb→lt, leb, leb→le}
-use Rattle.plan.specs.Meaning.{Edge, Atom, PlanFile, edge, IsTrue, is_on, is_off, value, true_in, add, under, Full}
+use Rattle.plan.specs.Meaning.{Edge, Atom, PlanFile, IsTrue, is_on, is_off, value, true_in, add, under, Full}
 use Rattle.plan.specs.Ranged.{max_nodes, max_variables, max_edges, max_length, max_atoms, max_bound, max_length_bound, max_clauses, max_literals, literals, EndsFit, BoundFits, Ranged}
 use Rattle.plan.specs.declared.Kind.{Kind}
 use Rattle.plan.specs.declared.Kind.TheVariants.{Reaches, Within, LengthAtMost}

@@ -1,4 +1,6 @@
 // plan: the types that all crates speak in (edges, atoms, kinds, refusals, assignments) and the tables they are lent in.
+#![tactic(auto)]
+
 pub mod clauses;
 
 ghost use Rattle.std.specs.Prelude.{◌≡◌, ◌+◌, ◌*◌, ◌<◌, ◌≤◌, pos, negsuc, neg_ℤ, nat_abs, length, replicate};
@@ -11,7 +13,7 @@ ghost use Rattle.plan.specs.Refusals.{number_of, value_of};
 ghost use Rattle.plan.specs.Tables.{edges_of, atoms_of, edge_of, atom_of, literal_value};
 
 // Why a call is refused, with the value that is returned beside the number.
-#[derive(Drop)]
+#[derive(Clone, Copy)]
 pub enum Refusal {
     TooLong,
     Cut(usize),
@@ -32,7 +34,7 @@ pub enum Refusal {
 }
 
 // What an atom says of its two sites: that there is a path, or one of so many hops, or of such a length, at the most.
-#[derive(Drop)]
+#[derive(Clone, Copy)]
 pub enum Kind {
     Reaches,
     Within,
@@ -40,21 +42,21 @@ pub enum Kind {
 }
 
 // What is counted along a path.
-#[derive(Drop)]
+#[derive(Clone, Copy)]
 pub enum Measure {
     Hops,
     Lengths,
 }
 
 // A graph of a partial assignment: the edges that are on, or those that are not off.
-#[derive(Drop)]
+#[derive(Clone, Copy)]
 pub enum Side {
     Under,
     Over,
 }
 
 // What a partial assignment says of an atom.
-#[derive(Drop)]
+#[derive(Clone, Copy)]
 pub enum State {
     Holds,
     Fails,
@@ -62,7 +64,7 @@ pub enum State {
 }
 
 // What stands in the tables of a plan file that was read: how many of each sort.
-#[derive(Drop)]
+#[derive(Clone, Copy)]
 pub struct Plan {
     pub nodes: u16,
     pub variables: u16,
@@ -82,7 +84,7 @@ impl Plan {
     pub const MAX_EDGES: usize = 256;
 }
 
-#[derive(Drop)]
+#[derive(Clone, Copy)]
 pub struct Edge {
     pub from: u16,
     pub to: u16,
@@ -98,7 +100,7 @@ impl Edge {
     pub const TABLE: usize = Plan::MAX_EDGES * Edge::NUMBERS;
 }
 
-#[derive(Drop)]
+#[derive(Clone, Copy)]
 pub struct Atom {
     pub kind: Kind,
     pub from: u16,
@@ -119,7 +121,7 @@ impl Atom {
     pub const TABLE: usize = Atom::MAX * Atom::NUMBERS;
 }
 
-#[derive(Drop)]
+#[derive(Clone, Copy)]
 pub struct Clause {
     pub literals: usize,
 }
@@ -133,7 +135,7 @@ impl Clause {
 }
 
 // An assignment: the value of variable v, 1 on, -1 off, 0 open, stands at place v - 1.
-#[derive(Drop)]
+#[derive(Clone, Copy)]
 pub struct Assignment {
     pub values: [i8; Assignment::MAX],
 }

@@ -1,4 +1,6 @@
 // planner: the public calls of the library. Each reads the file, and what is accepted is lent on to its own function below.
+#![tactic(auto)]
+
 ghost use Rattle.std.specs.Prelude.{◌≡◌, length};
 ghost use Rattle.plan.specs.Search.{Assigned};
 ghost use Rattle.plan.specs.Tables.{plan_of, Lent};
@@ -22,7 +24,7 @@ pub use reader::ReadAnswer;
 use reason::Answer;
 use search::Found;
 
-#[derive(Drop)]
+#[derive(Clone, Copy)]
 pub enum JudgeAnswer {
     Refused(Refusal),
     Plan,
@@ -30,14 +32,14 @@ pub enum JudgeAnswer {
     Atom(usize),
 }
 
-#[derive(Drop)]
+#[derive(Clone, Copy)]
 pub enum CloseAnswer {
     Refused(Refusal),
     Closed,
     Clash,
 }
 
-#[derive(Drop)]
+#[derive(Clone, Copy)]
 pub enum ReasonAnswer {
     Refused(Refusal),
     Holds(usize),
@@ -45,7 +47,7 @@ pub enum ReasonAnswer {
     Open,
 }
 
-#[derive(Drop)]
+#[derive(Clone, Copy)]
 pub enum SearchAnswer {
     Refused(Refusal),
     Plan(u32),
@@ -53,19 +55,19 @@ pub enum SearchAnswer {
     Undecided(u32),
 }
 
-#[derive(Drop)]
+#[derive(Clone, Copy)]
 pub enum WriteAnswer {
     Refused(Refusal),
     Written(usize, usize, usize),
 }
 
-#[derive(Drop)]
+#[derive(Clone, Copy)]
 pub enum WriteDimacsAnswer {
     Refused(Refusal),
     Printed(usize),
 }
 
-#[derive(Drop)]
+#[derive(Clone, Copy)]
 pub enum ReadDimacsAnswer {
     Refused(Refusal),
     Rules(usize, usize),

@@ -1,4 +1,6 @@
 // reader: a plan file's bytes into the tables. Here: the head, then record after record until the answer.
+#![tactic(auto)]
+
 mod fields;
 mod parts;
 mod records;
@@ -12,14 +14,14 @@ pub use parts::{used_atoms, used_clauses, used_edges};
 use plan::{Atom, Clause, Edge, Plan, Refusal};
 use records::take_record;
 
-#[derive(Drop)]
+#[derive(Clone, Copy)]
 pub enum ReadAnswer {
     Refused(Refusal),
     Accepted(Plan),
 }
 
 // What a record leads to: a refusal; the next record's offset, with the counts so far; or the whole file's counts.
-#[derive(Drop)]
+#[derive(Clone, Copy)]
 enum Step {
     Refuse(Refusal),
     Next(usize, Plan),

@@ -1,4 +1,6 @@
 // The reason of an atom: the path by which it holds, or the cut by which it fails, as marks on variables and then as a clause.
+#![tactic(auto)]
+
 ghost use Rattle.std.specs.Prelude.{◌≡◌, true, false, not, map, ◌↔◌, ◌+◌, ◌*◌, ◌<◌, ◌≤◌, T, length};
 ghost use Rattle.plan.specs.Closing.{Settles};
 ghost use Rattle.plan.specs.Meaning.{atom, cost_of, literal_of, true_in};
@@ -13,7 +15,7 @@ use plan::{Assignment, Atom, Edge, Kind, Side, State};
 use walk::Distances;
 
 // What is answered: the atom holds or fails, with the number of literals written; or it is open; or the clause needs more room than there is, and how much.
-#[derive(Drop)]
+#[derive(Clone, Copy)]
 pub enum Answer {
     Holds(usize),
     Fails(usize),

@@ -1,4 +1,6 @@
 // search: the first plan from all open, by closing and branching, with at most so many branchings.
+#![tactic(auto)]
+
 ghost use Rattle.std.specs.Prelude.{◌≡◌, List, ◌≤◌, ℤ, length, take};
 ghost use Rattle.plan.specs.Meaning.{true_in};
 ghost use Rattle.plan.specs.Ranged.{max_variables};
@@ -14,7 +16,7 @@ ghost use Rattle.search.specs.Report.{Reported, Filled, FirstOpen, Begins, Finds
 use index::Index;
 use plan::{Assignment, Plan};
 
-#[derive(Drop)]
+#[derive(Clone, Copy)]
 pub enum Verdict {
     Plan,
     Impossible,
@@ -22,7 +24,7 @@ pub enum Verdict {
 }
 
 // A part of the search: the verdict, the plan that it holds, and the branchings counted so far.
-#[derive(Drop)]
+#[derive(Clone, Copy)]
 pub struct Report {
     pub verdict: Verdict,
     pub held: Assignment,
@@ -30,7 +32,7 @@ pub struct Report {
 }
 
 // An assignment that was closed.
-#[derive(Drop)]
+#[derive(Clone, Copy)]
 pub struct Part {
     pub clash: bool,
     pub set: Assignment,
@@ -202,7 +204,7 @@ fn branch(
 }
 
 // The answer, with the branchings counted.
-#[derive(Drop)]
+#[derive(Clone, Copy)]
 pub enum Found {
     Plan(u32),
     Impossible(u32),

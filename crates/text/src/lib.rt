@@ -2,6 +2,8 @@
 //
 // A function here takes the buffer and the place of the next byte and hands back the place behind what it appended. A full
 // buffer is written to standard output, and filling goes on at its front; `flush` writes the rest.
+#![tactic(auto)]
+
 use plan::{Plan, Refusal, magnitude};
 
 // The length of the buffer.

@@ -1,4 +1,6 @@
 // unit: all that the clauses give, by a queue of the literals whose clauses are still to be looked at.
+#![tactic(auto)]
+
 ghost use Rattle.std.specs.Prelude.{◌≡◌, ◌+◌, ◌<◌, ◌≤◌, length};
 ghost use Rattle.plan.specs.Ranged.{max_variables};
 ghost use Rattle.plan.specs.Search.{Assigned, opens};
@@ -10,7 +12,7 @@ use index::Index;
 use plan::Assignment;
 
 // What a clause says of an assignment.
-#[derive(Drop)]
+#[derive(Clone, Copy)]
 pub enum Said {
     Clash,
     Gives(i16),
@@ -18,7 +20,7 @@ pub enum Said {
 }
 
 // What following a clause leads to: a clash, or the queue's new end.
-#[derive(Drop)]
+#[derive(Clone, Copy)]
 pub struct Followed {
     pub clash: bool,
     pub end: usize,

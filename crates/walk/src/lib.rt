@@ -1,4 +1,6 @@
 // The walks: distances from one node in a graph, by hops and by length, and what they say of an atom. How the distances are laid out stays in here.
+#![tactic(auto)]
+
 mod lengths;
 
 ghost use Rattle.std.specs.Prelude.{◌≡◌, suc, ◌+◌, ◌*◌, ◌<◌, ◌≤◌, length, ◌↔◌, T};
