@@ -17,7 +17,7 @@ enum Size {
     Is(u32),
 }
 
-fn is_digit_lem(byte: u8) -> bool
+fn is_digit(byte: u8) -> bool
     ensures { result ≡ is_digit byte }
 {
     byte >= b'0' && byte <= b'9'

@@ -1,6 +1,6 @@
 -- A proof by cases over the records: what holds of every refusal, and of what a record that passes its tests leads to, holds of every record's step.
 -- Assumes nothing.
-use Rattle.reader.proofs.Kit.{◌≡◌, refl, Bool, true, false, not, ◌&&◌, and-eq-true_iff, List, ℕ, ◌+◌, ◌*◌, ◌/◌, ◌<◌, ◌≤◌, arith, ltb-true, leb-true, eqb-true, not_true, ltb, leb, eqb, length}
+use Rattle.reader.proofs.Kit.{◌≡◌, refl, Bool, true, false, not, ◌&&◌, and-eq-true_iff, List, ℕ, ◌+◌, ◌*◌, ◌/◌, ◌<◌, ◌≤◌, arith, ltb-true, leb-true, eqb-true, not-true, ltb, leb, eqb, length}
 use Rattle.plan.specs.Meaning.{PlanFile}
 use Rattle.plan.specs.Ranged.{max_bytes, max_edges, max_atoms, max_clauses, max_literals, literals}
 use Rattle.reader.specs.Format.{Step, refuse, next, done, check, pick, in_order, word, tag_at, len_at, after, fits, head_ok, edge_ok, atom_ok, literals_ok, clause_len, edge_uses, atom_uses, edge_len, edge_in, kind_in, atom_in, clause_in, add_edge, add_atom, add_clause, empty_plan, edge_at, atom_at, clause_at, end_at, step_at, head_at}
@@ -47,14 +47,14 @@ module _ (G : Step → Type 0) (no : (n v : ℕ) → G (refuse n v)) where
     unfolding edge_at
     edge_by long g =
         in_order_lem (eqb (len_at f at) (edge_len long)) (edge_ok p.nodes p.variables (edge_in long f at)) (ltb (length p.edges) max_edges)
-        (not (atom_uses p.atoms (word f (at + 7)))) _ _ (λ l r m a. g (eqb-true (len_at f at) (edge_len long) l) r (ltb-true _ _ m) (not_true _ a))
+        (not (atom_uses p.atoms (word f (at + 7)))) _ _ (λ l r m a. g (eqb-true (len_at f at) (edge_len long) l) r (ltb-true _ _ m) (not-true _ a))
 
     pub atom_by : (len_at f at ≡ 9 → atom_ok p.nodes p.variables (kind_in f at) (atom_in f at) ≡ true → length p.atoms < max_atoms → edge_uses p.edges (word f (at + 10)) ≡ false
         → G (next (after f at) (add_atom p (atom_in f at)))) → G (atom_at f at p)
     unfolding atom_at
     atom_by g =
         in_order_lem (eqb (len_at f at) 9) (atom_ok p.nodes p.variables (kind_in f at) (atom_in f at)) (ltb (length p.atoms) max_atoms)
-        (not (edge_uses p.edges (word f (at + 10)))) _ _ (λ l r m a. g (eqb-true (len_at f at) 9 l) r (ltb-true _ _ m) (not_true _ a))
+        (not (edge_uses p.edges (word f (at + 10)))) _ _ (λ l r m a. g (eqb-true (len_at f at) 9 l) r (ltb-true _ _ m) (not-true _ a))
 
     pub clause_by : (len_at f at / 2 * 2 ≡ len_at f at → literals_ok p.variables (clause_in f at) ≡ true → length p.clauses < max_clauses
         → literals p.clauses + len_at f at / 2 ≤ max_literals → G (next (after f at) (add_clause p (clause_in f at)))) → G (clause_at f at p)

@@ -59,7 +59,7 @@ fn length_in(file: &[u8], at: usize, long: bool) -> u16
 }
 
 // The edge of the record at an offset.
-pub fn edge_in_lem(file: &[u8], at: usize, long: bool) -> Edge
+pub fn edge_in(file: &[u8], at: usize, long: bool) -> Edge
     requires { at + 3 + edge_len long ≤ length file.now }
     ensures { edge_of result ≡ edge_in long file.now at }
 {

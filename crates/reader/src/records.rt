@@ -8,7 +8,7 @@ ghost use Rattle.reader.specs.Filling.{Room, Ready, Takes, edge_row, atom_row, l
 
 use crate::Step;
 use crate::fields::{
-    atom_in, atom_ok, edge_in_lem, edge_len, edge_ok, kind_in, literal, literal_ok, record_fits, word,
+    atom_in, atom_ok, edge_in, edge_len, edge_ok, kind_in, literal, literal_ok, record_fits, word,
 };
 use plan::{Atom, Clause, Edge, Plan, Refusal, wide};
 
@@ -110,7 +110,7 @@ fn take_edge(
     if word(file, at + 1) != len {
         return Step::Refuse(Refusal::BadLength(at));
     }
-    let edge = edge_in_lem(file, at, long);
+    let edge = edge_in(file, at, long);
     if !edge_ok(counts, edge) {
         return Step::Refuse(Refusal::OutOfRange(at));
     }

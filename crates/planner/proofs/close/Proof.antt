@@ -1,5 +1,5 @@
 -- `close`: the reader's refusal is the call's, and what is accepted is closed in the used parts of the tables.
-use Rattle.planner.proofs.Shell.{needs, refl, Room, Parts, room, parts, named, when_refused, when_accepted}
+use Rattle.planner.proofs.Shell.{rules, refl, Room, Parts, room, parts, named, when_refused, when_accepted}
 use Rattle.planner.proofs.close.Statement.{statement}
 use Rattle.planner.proofs.close.Tie as tie
 
@@ -17,9 +17,9 @@ module _ (c : tie.After-used-clauses) where
 pub close_spec : {M : Type 1} → statement M
 close_spec =
     tie.close
-    (tie.spec (λ c κs. search needs) (λ c. search needs) (λ c. search needs)
+    (tie.spec (λ c κs. search rules) (λ c. search rules) (λ c. search rules)
     (λ c κs. fits c.before.before) (λ c κs. fits c.before.before.before.before) (λ c κs. fits c.before.before.before.before.before.before)
     (λ c κs. (used c.before).lent)
     (λ c. when_refused _ _ _ _ _ c.before.before.before.read-into.ensures c.before.reading.given.1 (named _, refl))
-    (λ c. search needs)
+    (λ c. search rules)
     (λ c. when_accepted _ _ (used c.before.before.before).reads c.before.close-lent.ensures))

@@ -1,5 +1,5 @@
 -- `judge`: the reader's refusal is the call's, and what is accepted is judged in the used parts of the tables.
-use Rattle.planner.proofs.Shell.{needs, Room, Parts, room, parts, named, when_refused, when_accepted}
+use Rattle.planner.proofs.Shell.{rules, Room, Parts, room, parts, named, when_refused, when_accepted}
 use Rattle.planner.proofs.judge.Statement.{statement}
 use Rattle.planner.proofs.judge.Tie as tie
 
@@ -17,7 +17,7 @@ module _ (c : tie.After-used-clauses) where
 pub judge_spec : {M : Type 1} → statement M
 judge_spec =
     tie.close
-    (tie.spec (λ c κs. search needs) (λ c. search needs) (λ c. search needs)
+    (tie.spec (λ c κs. search rules) (λ c. search rules) (λ c. search rules)
     (λ c κs. fits c.before.before) (λ c κs. fits c.before.before.before.before) (λ c κs. fits c.before.before.before.before.before.before)
     (λ c κs. (used c).lent)
     (λ c. when_refused _ _ _ _ _ c.before.before.before.read-into.ensures c.before.reading.given.1 (named _))

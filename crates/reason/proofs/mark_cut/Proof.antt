@@ -9,7 +9,7 @@ use lib.ListN.{length, get_or}
 use lib.Dec.{T}
 use Rattle.plan.specs.Tables.{edges_of, atom_of}
 use Rattle.plan.proofs.Tables.{edges_most}
-use Rattle.reason.specs.Answers.{Over, withEdges}
+use Rattle.reason.specs.Answers.{Over, with_edges}
 use Rattle.reason.specs.Marks.{CutBelow}
 use Rattle.reason.proofs.Cuts.{bare, blank, cut_more, cut_all}
 use Rattle.reason.proofs.mark_cut.Statement.{statement}
@@ -32,13 +32,13 @@ loop-again : tie.Need-loop-preserved invariant-loop decreases-loop
 loop-again c =
     let at = c.before.before.before in
     let t = at.before.before.args in
-    (omega arith, (c.mark-edge.ensures bare).long ∙ at.loop.invariant.1, λ φ. rw (add-one at.loop.k) (cut_more (withEdges (edges_of t.edges.now) φ) t.assignment.now (atom_of t.atom) at.loop.marks at.loop.k (at.loop.invariant.2 φ) (c.mark-edge.ensures φ)))
+    (omega arith, (c.mark-edge.ensures bare).long ∙ at.loop.invariant.1, λ φ. rw (add-one at.loop.k) (cut_more (with_edges (edges_of t.edges.now) φ) t.assignment.now (atom_of t.atom) at.loop.marks at.loop.k (at.loop.invariant.2 φ) (c.mark-edge.ensures φ)))
 
 returns : tie.Need-returns invariant-loop decreases-loop
 returns c = λ φ.
     let at = c.before in
     let t = at.before.before.args in
-    cut_all (withEdges (edges_of t.edges.now) φ) t.assignment.now (atom_of t.atom) at.loop.marks at.loop.k (omega (arith, edges_most t.edges.now)) (at.loop.invariant.2 φ)
+    cut_all (with_edges (edges_of t.edges.now) φ) t.assignment.now (atom_of t.atom) at.loop.marks at.loop.k (omega (arith, edges_most t.edges.now)) (at.loop.invariant.2 φ)
 
 pub mark_cut_spec : {M : Type 1} → statement M
 mark_cut_spec = tie.close (tie.spec invariant-loop decreases-loop loop-holds mark-edge-requires (λ c. omega arith) (λ c. omega arith) loop-again returns)

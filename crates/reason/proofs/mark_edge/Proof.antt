@@ -11,7 +11,7 @@ use Rattle.plan.specs.Tables.{edges_of, edge_of, atom_of}
 use Rattle.plan.proofs.Tables.{within_listed}
 use Rattle.plan.proofs.Lists.{mem_at}
 use Rattle.walk.proofs.Truths.{so, not_so}
-use Rattle.reason.specs.Answers.{withEdges}
+use Rattle.reason.specs.Answers.{with_edges}
 use Rattle.reason.specs.Marks.{EdgeFits, Crossing, CutAt}
 use Rattle.reason.proofs.Paths.{marks_as, marks_none, edge_fits}
 use Rattle.reason.proofs.Cuts.{cut_at}
@@ -35,9 +35,9 @@ module _ (c : tie.After-edge-at) where
   fits : EdgeFits begin.args.assignment.now e
   fits = edge_fits {e = e} begin.pre.0.fits (rw c.edge_at.ensures (mem_at es _ begin.args.k listed))
 
-  its : (φ : PlanFile) (v : ℕ) → CutAt begin.args.k (withEdges es φ) begin.args.assignment.now (atom_of begin.args.atom) v
+  its : (φ : PlanFile) (v : ℕ) → CutAt begin.args.k (with_edges es φ) begin.args.assignment.now (atom_of begin.args.atom) v
       ↔ ((v ≡ e.variable) × Crossing es begin.args.assignment.now (atom_of begin.args.atom) e)
-  its φ v = cut_at (withEdges es φ) begin.args.assignment.now (atom_of begin.args.atom) begin.args.k e listed c.edge_at.ensures v
+  its φ v = cut_at (with_edges es φ) begin.args.assignment.now (atom_of begin.args.atom) begin.args.k e listed c.edge_at.ensures v
 
 mark-requires : tie.Need-mark-requires
 mark-requires c κs = let d = c.before.before.before in ((fits d).low, (omega (arith, (fits d).high, (begin d).requires.0.fits.few), (begin d).requires.1.1))

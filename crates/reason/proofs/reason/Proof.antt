@@ -14,7 +14,7 @@ use Rattle.plan.specs.declared.State.TheVariants as state
 use Rattle.plan.proofs.Tables.{atoms_length}
 use Rattle.plan.proofs.Lists.{mem_at}
 use Rattle.walk.proofs.Lending.{lent_inside, lent_placed, atom_from, atom_to}
-use Rattle.reason.specs.Answers.{AnswerIs, Over, withEdges}
+use Rattle.reason.specs.Answers.{AnswerIs, Over, with_edges}
 use Rattle.reason.specs.Marks.{Fits}
 use Rattle.reason.specs.declared.Answer.{Answer}
 use Rattle.reason.specs.declared.Answer.TheVariants.{Open}
@@ -52,9 +52,9 @@ module _ (c : tie.After-atom-at) where
   variable_in : A.variable ≤ max_variables
   variable_in = omega (arith, (begin.pre.lent.ranged.atom _ its).high, begin.pre.lent.ranged.variables)
 
-  answers : (φ : PlanFile) (x : Answer) (new : List ℤ) → AnswerIs (withEdges es φ) a A x begin.args.out.now new
-      → AnswerIs (withEdges es φ) a (atom (atoms_of begin.args.atoms.now) begin.args.number) x begin.args.out.now new
-  answers φ x new h = subst (λ B. AnswerIs (withEdges es φ) a B x begin.args.out.now new) c.atom-at.ensures h
+  answers : (φ : PlanFile) (x : Answer) (new : List ℤ) → AnswerIs (with_edges es φ) a A x begin.args.out.now new
+      → AnswerIs (with_edges es φ) a (atom (atoms_of begin.args.atoms.now) begin.args.number) x begin.args.out.now new
+  answers φ x new h = subst (λ B. AnswerIs (with_edges es φ) a B x begin.args.out.now new) c.atom-at.ensures h
 
 distances-for-requires : tie.Need-distances-for-requires
 distances-for-requires c κs = (fits c, atom_from (begin c).requires.lent _ (its c))
@@ -72,8 +72,8 @@ module _ (c : tie.After-settled) where
 
   said : (s : State) → c.settled.result ≡ s → Over (es read) (λ φ. Settled φ (true_in (a read)) (A read) s)
   said s e φ =
-      subst (Settled (withEdges (es read) φ) (true_in (a read)) (A read)) e
-      (c.settled.ensures (withEdges (es read) φ) (a read) c.before.before.before.before.distances-for.ensures c.before.before.before.distances-for2.ensures)
+      subst (Settled (with_edges (es read) φ) (true_in (a read)) (A read)) e
+      (c.settled.ensures (with_edges (es read) φ) (a read) c.before.before.before.before.distances-for.ensures c.before.before.before.distances-for2.ensures)
 
 reason-holds-requires : tie.Need-reason-holds-requires
 reason-holds-requires c κs =

@@ -5,7 +5,7 @@ use lib.ListN.{length}
 use Rattle.plan.specs.Tables.{edges_of, atom_of}
 use Rattle.walk.specs.Walking.{distance_in}
 use Rattle.walk.proofs.Truths.{reached_distance, distance_reached}
-use Rattle.reason.specs.Answers.{withEdges}
+use Rattle.reason.specs.Answers.{with_edges}
 use Rattle.reason.specs.Marks.{Away}
 use Rattle.reason.proofs.Cuts.{bare}
 use Rattle.reason.proofs.Answering.{holds_by, answer_holds}
@@ -33,7 +33,7 @@ returns c = λ φ.
     let p = c.before.before.before.before in
     let d = p.before.before in
     let t = (begin d).args in
-    let file = withEdges (edges_of t.edges.now) φ in
+    let file = with_edges (edges_of t.edges.now) φ in
     let a = t.assignment.now in
     answer_holds file a (atom_of t.atom) _ t.out.now _ c.before.write-answer.result
     (holds_by file a (atom_of t.atom) (length a) _ (begin d).requires.0.fits.placed 512 d.distance.result ((begin d).requires.1.1.1 φ) (nearest d)

@@ -1,0 +1,42 @@
+-- `head::counts_at` reads the two numbers, and then the line has to end.
+use mathlib.Core.Path.{◌≡◌, ◌∙◌}
+use mathlib.Core.Bool.{false}
+use mathlib.Core.List.{List}
+use Prim.Native.Nat.{ℕ}
+use borrow.Author.Rules.{rules}
+use lib.ListN.{length}
+use Rattle.dimacs.specs.Words.{between}
+use Rattle.dimacs.specs.Reading.{behind, count, variables}
+use Rattle.dimacs.specs.Scanning.{left}
+use Rattle.dimacs.proofs.ProblemLine.{is_count, is_bad_count}
+use Rattle.dimacs.proofs.head.counts_at.Goals as goal
+
+pub returns-in-Bad : goal.returns-in-Bad
+unfolding variables
+returns-in-Bad c = is_bad_count _ _ c.count_at-variables.ensures c.in-Bad.is _
+
+pub returns-in-Bad-count : goal.returns-in-Bad-count
+unfolding variables count
+returns-in-Bad-count c =
+    (is_count _ _ c.count_at-variables.ensures c.in-Is.is).1 _
+    ∙ is_bad_count _ _ c.count_at-count.ensures c.in-Bad-count.is _
+
+module _ (c : goal.In-Is-count) where
+  abbrev text : List ℕ
+  text = c.args.text.now
+
+  both : variables (length text) c.args.at (left (between false) text c.args.from)
+      ≡ behind (length text) c.args.at c.in-Is.most c.in-Is-count.number (left (between false) text c.in-Is-count.end)
+  unfolding variables count
+  both =
+      (is_count _ _ c.count_at-variables.ensures c.in-Is.is).1 _
+      ∙ (is_count _ _ c.count_at-count.ensures c.in-Is-count.is).1 _
+
+pub count_at-count-requires : goal.count_at-count-requires
+count_at-count-requires c = (is_count _ _ c.count_at-variables.ensures c.in-Is.is).0
+
+pub ended-requires : goal.ended-requires
+ended-requires c = (is_count _ _ c.count_at-count.ensures c.in-Is-count.is).0
+
+pub returns-in-Is-count : goal.returns-in-Is-count
+returns-in-Is-count c = rw (both c.before) c.ended.ensures

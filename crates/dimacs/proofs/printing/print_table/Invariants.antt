@@ -1,0 +1,18 @@
+use mathlib.Core.Path.{sym, ap}
+use Prim.Native.Nat.{◌-◌, ◌≤◌, ◌<◌}
+use native.Mathlib.Omega.{arith}
+use lib.IntN.{pos}
+use lib.ListN.{length, take, get_or, length-take}
+use lib.Seq.{take_all}
+use Rattle.plan.specs.Front.{Laid}
+use Rattle.plan.proofs.Laying.{laid_as, laid_none, laid_then}
+use Rattle.plan.proofs.Signs.{wide_fits, wide_kept}
+use Rattle.dimacs.specs.Printing.{entry, entries}
+use Rattle.dimacs.proofs.Digits.{entries_next, entries_length}
+use Rattle.dimacs.proofs.printing.print_table.Given as goal
+
+abbrev pub invariant-loop-i : goal.invariant-loop-i
+invariant-loop-i l = (l.i ≤ length l.clauses) × Laid (entries (take l.i l.clauses)) l.at l.initial.out l.out l.end
+
+abbrev pub decreases-loop-i : goal.decreases-loop-i
+decreases-loop-i l = length l.clauses - l.i

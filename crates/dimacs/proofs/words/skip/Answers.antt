@@ -1,0 +1,46 @@
+-- `words::skip` passes the dividers one by one; behind an LF the line has no word yet.
+use mathlib.Core.Path.{◌≡◌, refl, sym, ◌∙◌}
+use mathlib.Core.Logic.{⊎_elim}
+use mathlib.Core.Bool.{true, ◌||◌, or-true, or-false}
+use Prim.Native.Nat.{ℕ, ◌-◌, ◌≤◌}
+use native.Mathlib.Omega.{arith}
+use borrow.Author.Rules.{rules}
+use borrow.Author.Tests.{eq-eqb, ne_eqb, not-true, not-false}
+use lib.Dec.{eqb}
+use lib.ListN.{length, get_or}
+use Rattle.dimacs.specs.Words.{between, divides, line_end}
+use Rattle.dimacs.specs.Scanning.{left}
+use Rattle.dimacs.proofs.Spans.{divided}
+use Rattle.dimacs.proofs.words.skip.Goals as goal
+
+pub returns-then-not-is_divider : goal.returns-then-not-is_divider
+returns-then-not-is_divider c =
+    let loop = c.loop-at in
+    record { after = loop.invariant.0; within = loop.invariant.1; here = λ h. sym c.is_divider.ensures ∙ c.if-not-is_divider.true; same = loop.invariant.2 }
+
+module _ (c : goal.Joined-byte-eq10) where
+  abbrev byte : ℕ
+  byte = get_or c.args.text.now c.loop-at.at 0
+
+  divides_here : divides byte ≡ true
+  divides_here = sym c.is_divider.ensures ∙ c.if-not-is_divider.false
+
+  fresh_is : c.if-byte-eq10.fresh ≡ (c.loop-at.fresh || eqb byte line_end)
+  fresh_is =
+      ⊎_elim
+      (λ x. rw (eq-eqb _ line_end x.0.taken, or-true) x.1)
+      (λ x. rw (ne_eqb _ line_end x.0.left, or-false) x.1)
+      c.if-byte-eq10.branch
+
+pub loop-at-preserved : goal.loop-at-preserved
+loop-at-preserved c =
+    let t = turn c in
+    (omega arith, omega arith, t.loop-at.invariant.2 ∙ divided _ _ t.loop-at-test.true _ _ (divides_here c) (fresh_is c))
+
+pub returns : goal.returns
+returns c =
+    let loop = c.loop-at in
+    record { after = loop.invariant.0; within = loop.invariant.1; here = λ h. absurd (omega arith); same = loop.invariant.2 }
+
+pub loop-at-init : goal.loop-at-init
+loop-at-init c = (omega arith, omega arith, refl)

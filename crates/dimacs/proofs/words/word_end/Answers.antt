@@ -1,0 +1,37 @@
+-- `words::word_end` takes the bytes into the word one by one, up to a divider or the text's end.
+use mathlib.Core.Path.{◌≡◌, sym, ◌∙◌}
+use Prim.Native.Nat.{◌-◌, ◌≤◌}
+use native.Mathlib.Omega.{arith}
+use borrow.Author.Rules.{rules}
+use lib.ListN.{length}
+use Rattle.dimacs.specs.Words.{Word, inside}
+use Rattle.dimacs.specs.Scanning.{left, part}
+use Rattle.dimacs.proofs.Spans.{with, word_begins, word_longer, word_ends, word_over}
+use Rattle.dimacs.proofs.words.word_end.Goals as goal
+
+pub returns-then-is_divider : goal.returns-then-is_divider
+returns-then-is_divider c =
+    let loop = c.loop-at in
+    record {
+      after = loop.invariant.0;
+      within = loop.invariant.1;
+      same = λ w. loop.invariant.2 w ∙ word_ends _ _ c.loop-at-test.true _ (sym c.is_divider.ensures ∙ c.if-is_divider.true);
+    }
+
+pub loop-at-preserved : goal.loop-at-preserved
+loop-at-preserved c =
+    let loop = c.loop-at in (
+      omega arith,
+      omega arith,
+      λ w.
+          loop.invariant.2 w
+          ∙ word_longer _ _ _ w loop.invariant.0 c.loop-at-test.true (sym c.is_divider.ensures ∙ c.if-is_divider.false),
+    )
+
+pub returns : goal.returns
+returns c =
+    let loop = c.loop-at in
+    record { after = loop.invariant.0; within = loop.invariant.1; same = λ w. loop.invariant.2 w ∙ word_over _ _ c.loop-at-test.false _ }
+
+pub loop-at-init : goal.loop-at-init
+loop-at-init c = (omega arith, omega arith, λ w. word_begins _ _ w)

@@ -1,0 +1,25 @@
+-- `walk::lengths::lower`: the end of the edge gets the distance over it where `is_better` says so, and else keeps its own.
+use mathlib.Core.Path.{◌≡◌, refl, sym, ◌∙◌}
+use mathlib.Core.Logic.{◌⊎◌, inl, inr, ⊎_elim}
+use mathlib.Core.Bool.{true, false}
+use mathlib.Core.List.{List}
+use Prim.Native.Nat.{ℕ, ◌+◌}
+use borrow.Author.Rules.{rules}
+use lib.ListN.{get_or, set}
+use lib.Seq.{set-get_or}
+use Rattle.walk.specs.Nearest.{is_better, lowered}
+use Rattle.walk.proofs.lengths.lower.Goals as goal
+
+-- the better of the two, written in either case
+lowers : (known node k : ℕ) (d : List ℕ) (best : ℕ) → ((is_better known d node k ≡ true) × (best ≡ k)) ⊎ ((is_better known d node k ≡ false) × (best ≡ get_or d node 0))
+    → set d node best ≡ lowered known node k d
+lowers known node k d best (inl x) = rw (x.0, x.1) refl
+lowers known node k d best (inr x) = rw (x.0, x.1) (set-get_or d node 0)
+
+pub returns : goal.returns
+returns c =
+    let w = c.wide-to.ensures in
+    let a = c.args in
+    rw w
+    (lowers a.known a.edge.to (a.near + a.edge.length) a.distances.now c.if-is_better.best
+    (⊎_elim (λ t. inl (rw w at (sym c.is_better.ensures ∙ t.0.taken), t.1)) (λ e. inr (rw w at (sym c.is_better.ensures ∙ e.0.left), rw w at e.2)) c.if-is_better.branch))
