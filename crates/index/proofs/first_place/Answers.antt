@@ -2,7 +2,6 @@
 use mathlib.Core.Path.{◌≡◌, ap, ◌∙◌}
 use Prim.Native.Nat.{◌<◌}
 use native.Mathlib.Omega.{arith}
-use borrow.Author.Rules.{rules}
 use lib.ListN.{get_or}
 use mir.Facts.{to_z-of_z}
 use Rattle.index.specs.Places.{slot, firsts}
@@ -21,7 +20,12 @@ pub offset_bounds-places-slot : goal.offset_bounds-places-slot
 offset_bounds-places-slot c = omega (arith, low c)
 
 pub bounds-places-slot : goal.bounds-places-slot
-bounds-places-slot c = omega (arith, low c.before)
+bounds-places-slot c =
+    let is : c.slot_of-slot.result ≡ slot c.args.number = c.slot_of-slot.ensures ∙ ap slot (to_z-of_z c.ranges.number) in
+    let low : c.slot_of-slot.result < firsts = omega (arith, is, slot_inside c.args.number c.requires) in
+    omega (arith, low)
 
 pub returns : goal.returns
-returns c = c.wide.ensures ∙ ap (λ k. get_or c.args.places.now k 0) (is c.before.before.before)
+returns c =
+    let is : c.slot_of-slot.result ≡ slot c.args.number = c.slot_of-slot.ensures ∙ ap slot (to_z-of_z c.ranges.number) in
+    c.wide.ensures ∙ ap (λ k. get_or c.args.places.now k 0) (is)

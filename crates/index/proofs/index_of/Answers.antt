@@ -44,27 +44,36 @@ bounds-clauses-at c = inside c
 -- the number at that place
 module _ (c : goal.After-slot_of-arg-1) where
   abbrev number : ℤ
-  number = get_or (table c.before) (at c.before) (pos 0)
+  number = get_or c.args.clauses.now (c.loop-at.at - 1) (pos 0)
 
   read_back : to_z w16 (of_z w16 number) ≡ number
   read_back = let f : SFits w16 number = search rules in to_z-of_z f
 
   small : nat_abs number ≤ max_variables
-  small = c.requires.small (at c.before) (inside c.before)
+  small =
+      let inside : (c.loop-at.at - 1) < length c.args.clauses.now = omega (arith, c.loop-at.invariant.inside, c.loop-at-test.true) in
+      c.requires.small (c.loop-at.at - 1) inside
 
 pub slot_of-slot-requires : goal.slot_of-slot-requires
 slot_of-slot-requires c = rw (read_back c) (small c)
 
 -- where the index keeps that number's first place
 module _ (c : goal.After-slot_of-slot) where
-  is : c.slot_of-slot.result ≡ slot (number c.before)
-  is = c.slot_of-slot.ensures ∙ ap slot (read_back c.before)
+  is : c.slot_of-slot.result ≡ slot (get_or c.args.clauses.now (c.loop-at.at - 1) (pos 0))
+  is =
+      let read_back : to_z w16 (of_z w16 (get_or c.args.clauses.now (c.loop-at.at - 1) (pos 0))) ≡ (get_or c.args.clauses.now (c.loop-at.at - 1) (pos 0)) = let f : SFits w16 (get_or c.args.clauses.now (c.loop-at.at - 1) (pos 0)) = search rules in to_z-of_z f in
+      c.slot_of-slot.ensures ∙ ap slot read_back
 
   low : c.slot_of-slot.result < firsts
-  low = omega (arith, is, slot_inside (number c.before) (small c.before))
+  low =
+      let inside : (c.loop-at.at - 1) < length c.args.clauses.now = omega (arith, c.loop-at.invariant.inside, c.loop-at-test.true) in
+      let small : nat_abs (get_or c.args.clauses.now (c.loop-at.at - 1) (pos 0)) ≤ max_variables = c.requires.small (c.loop-at.at - 1) inside in
+      omega (arith, is, slot_inside (get_or c.args.clauses.now (c.loop-at.at - 1) (pos 0)) small)
 
-  short : at c.before.before) < max_table
-  short = let t = c.before in omega (arith, inside t, t.requires.short)
+  short : (c.loop-at.at - 1) < max_table
+  short =
+      let inside : (c.loop-at.at - 1) < length c.args.clauses.now = omega (arith, c.loop-at.invariant.inside, c.loop-at-test.true) in
+      omega (arith, inside, c.requires.short)
 
 pub offset_bounds-places-slot : goal.offset_bounds-places-slot
 offset_bounds-places-slot c = omega (arith, low c)
@@ -95,8 +104,8 @@ loop-at-smaller c = omega (arith, c.loop-at-test.true)
 
 pub loop-at-preserved : goal.loop-at-preserved
 loop-at-preserved c =
-    let t = c.before in
-    rw (is c) (built_more (table t) t.loop-at.places (at t) t.requires (inside t) (subst (λ k. Built (table t) k t.loop-at.places) (omega (arith, t.loop-at-test.true)) t.loop-at.invariant))
+    let inside : (c.loop-at.at - 1) < length c.args.clauses.now = omega (arith, c.loop-at.invariant.inside, c.loop-at-test.true) in
+    rw (is c) (built_more c.args.clauses.now c.loop-at.places (c.loop-at.at - 1) c.requires inside (subst (λ k. Built c.args.clauses.now k c.loop-at.places) (omega (arith, c.loop-at-test.true)) c.loop-at.invariant))
 
 pub returns : goal.returns
 returns c = built_all c.requires (subst (λ k. Built c.args.clauses.now k c.loop-at.places) (omega (arith, c.loop-at-test.false)) c.loop-at.invariant)
