@@ -2,8 +2,8 @@
 -- Assumes nothing.
 use mathlib.Core.Path.{◌≡◌, sym, ap, ◌∙◌, subst, subst₂}
 use mathlib.Core.Logic.{◌≢◌}
-use mathlib.Core.List.{List}
-use Prim.Native.Nat.{ℕ, suc, ◌+◌, ◌-◌, ◌/◌, ◌<◌, ◌≤◌}
+use mathlib.Core.List.{List, Memᴰ}
+use Prim.Native.Nat.{ℕ, suc, ◌+◌, ◌-◌, ◌*◌, ◌/◌, ◌<◌, ◌≤◌}
 use native.Mathlib.Decide.{ℕ_discrete, dec_lt}
 use native.Mathlib.Omega.{arith}
 use lib.ListN.{length, get_or, set, length-set, replicate, length-replicate, get_or-replicate}
@@ -13,6 +13,7 @@ use Rattle.plan.specs.Meaning.{Edge, Graph, edge}
 use Rattle.plan.specs.Places.{First}
 use Rattle.plan.specs.Ranged.{max_edges}
 use Rattle.plan.specs.Tables.{edges_of}
+use Rattle.plan.proofs.Lists.{mem_at}
 use Rattle.plan.proofs.Places.{without_none, first_found, first_end, first_back}
 use Rattle.plan.proofs.Tables.{edges_most, within_listed}
 use Rattle.walk.specs.Walking.{Starts, Chained}
@@ -24,6 +25,10 @@ edges_count l = elim (dec_lt 0 (length l / 4)) [
   | yes y ↦ omega (arith, edges_most l, within_listed l (length l / 4 - 1) (omega arith))
   | no n ↦ omega (arith, edges_most l)
 ]
+
+-- an edge that is read from the table is one of its edges
+pub its_listed : (l : List ℕ) (k : ℕ) (e : Edge) → e ≡ edge (edges_of l) k → k * 4 + 3 < length l → Memᴰ e (edges_of l)
+its_listed l k e q h = rw q (mem_at (edges_of l) _ k (within_listed l k h))
 
 -- from the end on there is no edge
 pub chained_none : (es : List Edge) (g : Graph) (n : ℕ) → n ≡ length es → ChainedFrom es g n (replicate 320 n)

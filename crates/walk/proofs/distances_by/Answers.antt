@@ -10,10 +10,9 @@ walk-requires c = record {
 
 pub length_walk-requires : goal.length_walk-requires
 length_walk-requires c =
-    let p = c.requires in
     record {
-      chains = record { graph = _; chained = c.chains-chains.ensures; inside = p.0; few = p.1.1.0 };
-      source_bound = p.1.1.1;
+      chains = record { graph = _; chained = c.chains-chains.ensures; inside = c.requires.inside; few = c.requires.edges_len_bound };
+      source_bound = c.requires.source_bound;
       room = c.blank-distances.ensures;
     }
 

@@ -1,8 +1,11 @@
 -- `walk::is_present`: on in the under graph, not off in the over graph.
-use mathlib.Core.Logic.{inl, inr, ⊎_elim}
-use borrow.Author.Rules.{rules}
+use mathlib.Core.Logic.{inl, inr}
 use Rattle.walk.proofs.Filling.{present}
 use Rattle.walk.proofs.is_present.Goals as goal
+use Rattle.walk.proofs.is_present.Goals.{in-Under, in-Over}
 
 pub returns : goal.returns
-returns c = present _ _ _ _ _ (⊎_elim (λ x. inl (x.1.given.1, x.2)) (λ x. inr (x.1.given.1, x.2)) c.match-side.branch) c.is_set_to.ensures
+returns c =
+    present c.args.side c.match-side.under _ _ _
+    (elim c.match-side.branch [ in-Under w ↦ inl (w.in-Under.is, w.under-is) | in-Over w ↦ inr (w.in-Over.is, w.under-is) ])
+    c.is_set_to.ensures

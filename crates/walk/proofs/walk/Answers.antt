@@ -52,7 +52,7 @@ overflow_add-count c = omega (arith, count_in c.loop-head.invariant.2 c.loop-hea
 pub visit-tail-requires : goal.visit-tail-requires
 visit-tail-requires c =
     let i = c.loop-head.invariant in
-    (i.2.numbered, (i.2.places, left_room _ _ _ _ _ _ _ i.1 i.2 c.loop-head-test.true))
+    record { room = i.2.numbered; queue_len = i.2.places; bound = left_room _ _ _ _ _ _ _ i.1 i.2 c.loop-head-test.true }
 
 -- a turn, once the neighbours are visited
 module _ (c : goal.After-visit-tail) where
@@ -81,4 +81,4 @@ pub returns : goal.returns
 returns c =
     let e : c.loop-head.head ≡ c.loop-head.tail = omega arith in
     let b = rw e at c.loop-head.invariant.2 in
-    record { table = λ es g inside n. table _ _ c.requires.source_bound es g inside n _ _ _ _ b; room = length-set c.loop-head.counts 64 (2 ^ 64 - 1 - c.loop-head.false) ∙ b.numbered }
+    record { table = λ es g inside n. table _ _ c.requires.source_bound es g inside n _ _ _ _ b; room = length-set c.loop-head.counts 64 (2 ^ 64 - 1 - c.loop-head.left) ∙ b.numbered }

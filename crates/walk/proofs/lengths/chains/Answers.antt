@@ -17,13 +17,12 @@ loop-k-init c = (omega arith, chained_none _ _ _ (sym (edges_count c.args.edges.
 
 pub put_first-requires : goal.put_first-requires
 put_first-requires c =
-    let p = c.requires in
     let k = c.loop-k.k in
     let e : k ≡ suc (k - 1) = omega arith in
     record {
-      inside = p.0;
-      placed = p.1.0;
-      edges_len_bound = p.1.1;
+      inside = c.requires.inside;
+      placed = c.requires.placed;
+      edges_len_bound = c.requires.edges_len_bound;
       k_in_bounds = omega arith;
       chained_from = rw e at c.loop-k.invariant.1;
     }

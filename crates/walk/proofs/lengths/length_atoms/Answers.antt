@@ -14,6 +14,7 @@ use Rattle.walk.specs.Walking.{bit}
 use Rattle.walk.proofs.Truths.{so, not_so}
 use Rattle.walk.proofs.Sets.{bit_empty, one_shifted, more_old, more_new, more_which}
 use Rattle.walk.proofs.lengths.length_atoms.Goals as goal
+use Rattle.walk.proofs.lengths.length_atoms.Goals.{then-counts_lengths, else-counts_lengths}
 
 pub loop-k-init : goal.loop-k-init
 loop-k-init c = (omega arith, λ j. ((λ t. absurd (bit_empty j t)), (λ q. absurd (omega (arith, q.0)))))
@@ -48,10 +49,10 @@ loop-k-preserved c =
     let counts : T c.counts_lengths.result ↔ Counts c.loop-k.k = rw (sym (ap (λ A. measure_of A.kind) c.atom_at-atom.ensures)) c.counts_lengths.ensures in
     let k = c.loop-k.k in (
       omega (arith, c.loop-k-test.true),
-      ⊎_elim
-          (λ w. rw (w.1, one_shifted k (few)) (more_in (Counts) k c.loop-k.those (few) c.loop-k.invariant.1 ((counts).0 (so {r = c.counts_lengths.result} refl w.0.taken))))
-          (λ w. rw w.1 (none_in (Counts) k c.loop-k.those (few) c.loop-k.invariant.1 (λ p. not_so {r = c.counts_lengths.result} refl w.0.left ((counts).1 p))))
-          c.if-counts_lengths.branch,
+      elim c.if-counts_lengths.branch [
+        | then-counts_lengths w ↦ rw (w.those-is, one_shifted k few) (more_in Counts k c.loop-k.those few c.loop-k.invariant.1 (counts.0 (so {r = c.counts_lengths.result} refl w.if-counts_lengths.true)))
+        | else-counts_lengths w ↦ rw w.those-is (none_in Counts k c.loop-k.those few c.loop-k.invariant.1 (λ p. not_so {r = c.counts_lengths.result} refl w.if-counts_lengths.false (counts.1 p)))
+      ],
     )
 
 pub returns : goal.returns
@@ -60,9 +61,7 @@ returns c =
     record { few = c.requires.count_le_max_atoms; exact = λ j. rw e at (c.loop-k.invariant.1 j) }
 
 pub overflow_shl-those : goal.overflow_shl-those
-overflow_shl-those c =
-    let few : c.loop-k.k < 64 = omega (arith, c.loop-k-test.true, c.requires.count_le_max_atoms) in
-    few
+overflow_shl-those c = omega (arith, c.loop-k-test.true, c.requires.count_le_max_atoms)
 
 pub loop-k-smaller : goal.loop-k-smaller
 loop-k-smaller c = omega (arith, c.loop-k-test.true)

@@ -29,38 +29,33 @@ loop-done-init c =
 
 pub nearest-node-requires : goal.nearest-node-requires
 nearest-node-requires c =
-    let own : Dijkstra (edges_of c.args.edges.now) c.requires.chains.graph c.args.source c.loop-done.known c.loop-done.done c.loop-done.distances = c.loop-done.invariant c.requires.chains.graph c.requires.chains.chained in
-    let v = own in (some_left v c.loop-done-test.true, v.long)
+    let v = c.loop-done.invariant _ c.requires.chains.chained in
+    record { fact = some_left v c.loop-done-test.true; room = v.long }
 
 pub relax-known-requires : goal.relax-known-requires
 relax-known-requires c =
-    let own : Dijkstra (edges_of c.args.edges.now) c.requires.chains.graph c.args.source c.loop-done.known c.loop-done.done c.loop-done.distances = c.loop-done.invariant c.requires.chains.graph c.requires.chains.chained in
-    let v = own in
+    let v = c.loop-done.invariant _ c.requires.chains.chained in
     let n = c.nearest-node.ensures in
-    (c.requires.chains, (node_in v n, (v.long, omega (arith, node_low v n, size_le 64 c.loop-done.done))))
+    record { chains = c.requires.chains; node_bound = node_in v n; room = v.long; node_bound_2 = omega (arith, node_low v n, size_le 64 c.loop-done.done) }
 
 pub overflow_shl-done : goal.overflow_shl-done
 overflow_shl-done c =
-    let own : Dijkstra (edges_of c.args.edges.now) c.requires.chains.graph c.args.source c.loop-done.known c.loop-done.done c.loop-done.distances = c.loop-done.invariant c.requires.chains.graph c.requires.chains.chained in
-    node_in (own) c.nearest-node.ensures
+    node_in (c.loop-done.invariant _ c.requires.chains.chained) c.nearest-node.ensures
 
 pub loop-done-smaller : goal.loop-done-smaller
 loop-done-smaller c =
-    let own : Dijkstra (edges_of c.args.edges.now) c.requires.chains.graph c.args.source c.loop-done.known c.loop-done.done c.loop-done.distances = c.loop-done.invariant c.requires.chains.graph c.requires.chains.chained in
-    let v = own in
+    let v = c.loop-done.invariant _ c.requires.chains.chained in
     let n = c.nearest-node.ensures in
     rw (one_shifted _ (node_in v n)) (omega (arith, one_more v n, size_le 64 (bit_or c.loop-done.done (2 ^ c.nearest-node.result))))
 
 pub loop-done-preserved : goal.loop-done-preserved
 loop-done-preserved c =
-    let own : Dijkstra (edges_of c.args.edges.now) c.requires.chains.graph c.args.source c.loop-done.known c.loop-done.done c.loop-done.distances = c.loop-done.invariant c.requires.chains.graph c.requires.chains.chained in
     λ g h.
     let n = c.nearest-node.ensures in
     let f : c.relax-known.result < 2 ^ 64 = search rules in
-    rw (one_shifted _ (node_in (own) n))
+    rw (one_shifted _ (node_in (c.loop-done.invariant _ c.requires.chains.chained) n))
     (turn (c.loop-done.invariant g h) n (c.relax-known.ensures g h) f (length_fits c.args.edges.now (λ i. omega (arith, c.shared_slice_known-1.given i))))
 
 pub returns : goal.returns
 returns c =
-    let own : Dijkstra (edges_of c.args.edges.now) c.requires.chains.graph c.args.source c.loop-done.known c.loop-done.done c.loop-done.distances = c.loop-done.invariant c.requires.chains.graph c.requires.chains.chained in
-    record { table = λ g h. table (rw c.loop-done-test.false at (c.loop-done.invariant g h)); room = length-set c.loop-done.distances 64 c.loop-done.known ∙ (own).long }
+    record { table = λ g h. table (rw c.loop-done-test.false at (c.loop-done.invariant g h)); room = length-set c.loop-done.distances 64 c.loop-done.known ∙ (c.loop-done.invariant _ c.requires.chains.chained).long }

@@ -9,6 +9,7 @@ use lib.ListN.{get_or, set}
 use lib.Seq.{set-get_or}
 use Rattle.walk.specs.Nearest.{is_better, lowered}
 use Rattle.walk.proofs.lengths.lower.Goals as goal
+use Rattle.walk.proofs.lengths.lower.Goals.{then-is_better, else-is_better}
 
 -- the better of the two, written in either case
 lowers : (known node k : ℕ) (d : List ℕ) (best : ℕ) → ((is_better known d node k ≡ true) × (best ≡ k)) ⊎ ((is_better known d node k ≡ false) × (best ≡ get_or d node 0))
@@ -22,4 +23,7 @@ returns c =
     let a = c.args in
     rw w
     (lowers a.known a.edge.to (a.near + a.edge.length) a.distances.now c.if-is_better.best
-    (⊎_elim (λ t. inl (rw w at (sym c.is_better.ensures ∙ t.0.taken), t.1)) (λ e. inr (rw w at (sym c.is_better.ensures ∙ e.0.left), rw w at e.2)) c.if-is_better.branch))
+    (elim c.if-is_better.branch [
+      | then-is_better t ↦ inl (rw w at (sym c.is_better.ensures ∙ t.if-is_better.true), t.best-is)
+      | else-is_better e ↦ inr (rw w at (sym c.is_better.ensures ∙ e.if-is_better.false), rw w at e.best-is)
+    ]))

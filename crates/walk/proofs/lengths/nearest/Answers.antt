@@ -9,22 +9,16 @@ use lib.ListN.{get_or}
 use Rattle.walk.proofs.Sets.{Taken, taken}
 use Rattle.walk.proofs.Choosing.{Choosing, choose_start, choose_other, choose_same, choose_end}
 use Rattle.walk.proofs.lengths.nearest.Goals as goal
-
--- the lowest node of the set, and of what is left
-first_in : (c : goal.Start) → count_trailing_zeros 64 c.args.set < 64
-first_in c = (taken c.args.set c.ranges.set.fits c.requires.fact).inside
-
-lowest : (c : goal.In-loop-rest) → Taken c.loop-rest.rest (count_trailing_zeros 64 c.loop-rest.rest) (bit_and c.loop-rest.rest (c.loop-rest.rest - 1))
-lowest c = taken c.loop-rest.rest c.loop-rest.invariant.0.fits c.loop-rest-test.true
+use Rattle.walk.proofs.lengths.nearest.Goals.{then-distances-other, else-distances-other}
 
 pub overflow_cast-node : goal.overflow_cast-node
-overflow_cast-node c = omega (arith, first_in c)
+overflow_cast-node c = omega (arith, (taken _ c.ranges.set.fits c.requires.fact).inside)
 
 pub offset_bounds-distances-node : goal.offset_bounds-distances-node
-offset_bounds-distances-node c = omega (arith, first_in c)
+offset_bounds-distances-node c = omega (arith, (taken _ c.ranges.set.fits c.requires.fact).inside)
 
 pub bounds-distances-node : goal.bounds-distances-node
-bounds-distances-node c = omega (arith, first_in c)
+bounds-distances-node c = omega (arith, (taken _ c.ranges.set.fits c.requires.fact).inside)
 
 pub overflow_sub-rest : goal.overflow_sub-rest
 overflow_sub-rest c = omega (arith, c.requires.fact)
@@ -33,34 +27,34 @@ pub loop-rest-init : goal.loop-rest-init
 loop-rest-init c = (choose_start _ _ c.ranges.set.fits c.requires.fact, refl)
 
 pub overflow_cast-other : goal.overflow_cast-other
-overflow_cast-other c = omega (arith, (lowest c).inside)
+overflow_cast-other c = omega (arith, (taken _ c.loop-rest.invariant.0.fits c.loop-rest-test.true).inside)
 
 pub offset_bounds-distances-other : goal.offset_bounds-distances-other
-offset_bounds-distances-other c = omega (arith, (lowest c).inside)
+offset_bounds-distances-other c = omega (arith, (taken _ c.loop-rest.invariant.0.fits c.loop-rest-test.true).inside)
 
 pub bounds-distances-other : goal.bounds-distances-other
-bounds-distances-other c = omega (arith, (lowest c).inside)
+bounds-distances-other c = omega (arith, (taken _ c.loop-rest.invariant.0.fits c.loop-rest-test.true).inside)
 
 pub offset_bounds-distances-other-then-distances-other : goal.offset_bounds-distances-other-then-distances-other
-offset_bounds-distances-other-then-distances-other c = omega (arith, (lowest c.before.before).inside)
+offset_bounds-distances-other-then-distances-other c = omega (arith, (taken _ c.loop-rest.invariant.0.fits c.loop-rest-test.true).inside)
 
 pub bounds-distances-other-then-distances-other : goal.bounds-distances-other-then-distances-other
-bounds-distances-other-then-distances-other c = omega (arith, (lowest c.before.before).inside)
+bounds-distances-other-then-distances-other c = omega (arith, (taken _ c.loop-rest.invariant.0.fits c.loop-rest-test.true).inside)
 
 pub overflow_sub-rest-in-loop-rest : goal.overflow_sub-rest-in-loop-rest
 overflow_sub-rest-in-loop-rest c = omega (arith, c.loop-rest-test.true)
 
 pub loop-rest-smaller : goal.loop-rest-smaller
-loop-rest-smaller c = (lowest c.before.before).fewer
+loop-rest-smaller c = (taken _ c.loop-rest.invariant.0.fits c.loop-rest-test.true).fewer
 
 pub loop-rest-preserved : goal.loop-rest-preserved
 loop-rest-preserved c =
     let v = c.loop-rest.invariant in
-    let t = lowest c.before.before in
-    ⊎_elim
-    (λ q. (choose_other v.0 t q.2 (omega (arith, v.1, q.0.taken)), rw q.2 q.3))
-    (λ q. (choose_same v.0 t q.1 (omega (arith, v.1, q.0.left)), rw q.1 (q.2 ∙ v.1)))
-    c.if-distances-other.branch
+    let t = taken _ v.0.fits c.loop-rest-test.true in
+    elim c.if-distances-other.branch [
+      | then-distances-other q ↦ (choose_other v.0 t q.node-is (omega (arith, v.1, q.if-distances-other.true)), rw q.node-is q.least-is)
+      | else-distances-other q ↦ (choose_same v.0 t q.node-is (omega (arith, v.1, q.if-distances-other.false)), rw q.node-is (q.least-is ∙ v.1))
+    ]
 
 pub returns : goal.returns
 returns c = choose_end c.loop-rest.invariant.0 c.loop-rest-test.false

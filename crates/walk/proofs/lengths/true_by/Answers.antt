@@ -1,6 +1,6 @@
 -- `walk::lengths::true_by`: each atom of the set is looked at once, and kept where the distances say that it is true.
 use mathlib.Core.Path.{refl, ap}
-use mathlib.Core.Logic.{inl, inr, ⊎_elim}
+use mathlib.Core.Logic.{◌≢◌, inl, inr, ⊎_elim}
 use mathlib.Core.List.{List}
 use Prim.Native.Nat.{ℕ, ◌<◌}
 use native.Mathlib.Omega.{arith}
@@ -14,31 +14,26 @@ use Rattle.walk.proofs.Picking.{less_first, Left, left_all, left_less, Chosen, c
 use Rattle.walk.proofs.Truths.{so, not_so}
 use Rattle.walk.proofs.Asked.{asked_within, asked_true}
 use Rattle.walk.proofs.lengths.true_by.Goals as goal
+use Rattle.walk.proofs.lengths.true_by.Goals.{then-is_true, else-is_true}
 
--- the lowest atom of what is left
-module _ (c : goal.In-loop-rest) where
-  inside : count_trailing_zeros 64 c.loop-rest.rest < 64
-  inside = (taken c.loop-rest.rest c.loop-rest.invariant.0.fits c.loop-rest-test.true).inside
-
-  in_asked : T (bit (count_trailing_zeros 64 c.loop-rest.rest) c.args.asked)
-  in_asked =
-      let l = c.loop-rest.invariant.0 in
-      l.part _ (taken c.loop-rest.rest l.fits c.loop-rest-test.true).is
+-- the lowest atom of what is left is one of those asked
+in_asked : {asked rest : ℕ} → Left asked rest → rest ≢ 0 → T (bit (count_trailing_zeros 64 rest) asked)
+in_asked l some = l.part _ (taken _ l.fits some).is
 
 pub loop-rest-init : goal.loop-rest-init
 loop-rest-init c = (left_all _ c.ranges.asked.fits, λ es g x. chosen_none _ _)
 
 pub overflow_cast-k : goal.overflow_cast-k
-overflow_cast-k c = omega (arith, inside c)
+overflow_cast-k c = omega (arith, (taken _ c.loop-rest.invariant.0.fits c.loop-rest-test.true).inside)
 
 pub atom_at-atom-requires : goal.atom_at-atom-requires
-atom_at-atom-requires c = asked_within _ _ _ c.requires (in_asked c)
+atom_at-atom-requires c = asked_within _ _ _ c.requires (in_asked c.loop-rest.invariant.0 c.loop-rest-test.true)
 
 pub is_true-requires : goal.is_true-requires
-is_true-requires c = omega (arith, ap (λ x. x.to) c.atom_at-atom.ensures, c.requires.to_in _ (in_asked c.before))
+is_true-requires c = omega (arith, ap (λ x. x.to) c.atom_at-atom.ensures, c.requires.to_in _ (in_asked c.loop-rest.invariant.0 c.loop-rest-test.true))
 
 pub overflow_shl-those : goal.overflow_shl-those
-overflow_shl-those c = inside c.before.before.before
+overflow_shl-those c = (taken _ c.loop-rest.invariant.0.fits c.loop-rest-test.true).inside
 
 pub overflow_sub-rest : goal.overflow_sub-rest
 overflow_sub-rest c = omega (arith, c.loop-rest-test.true)
@@ -51,9 +46,12 @@ loop-rest-preserved c =
     let l = c.loop-rest.invariant in (
       left_less l.0 (less_first _ l.0.fits c.loop-rest-test.true),
       λ es g x.
-          let t = asked_true _ c.requires (in_asked c.before.before.before) _ c.atom_at-atom.ensures _ c.is_true.result c.is_true.ensures es g (x _ (in_asked c.before.before.before)) in
+          let t = asked_true _ c.requires (in_asked c.loop-rest.invariant.0 c.loop-rest-test.true) _ c.atom_at-atom.ensures _ c.is_true.result c.is_true.ensures es g (x _ (in_asked c.loop-rest.invariant.0 c.loop-rest-test.true)) in
           chosen_lowest _ _ _ _ l.0 (l.1 es g x) _ c.loop-rest-test.true
-          (⊎_elim (λ w. inl (t.0 (so refl w.0.taken), w.1)) (λ w. inr (λ y. not_so refl w.0.left (t.1 y), w.1)) c.if-is_true.branch),
+          (elim c.if-is_true.branch [
+            | then-is_true w ↦ inl (t.0 (so refl w.if-is_true.true), w.those-is)
+            | else-is_true w ↦ inr (λ y. not_so refl w.if-is_true.false (t.1 y), w.those-is)
+          ]),
     )
 
 pub returns : goal.returns
