@@ -1,19 +1,12 @@
 -- `walk::add_edge`: an edge that is in the graph puts its end into the set of its start; any other changes nothing. The edge is one of the table, so its ends are
 -- nodes, and its variable has a value.
 use mathlib.Core.Path.{sym, ap, ◌∙◌}
-use mathlib.Core.List.{Memᴰ}
-use Prim.Native.Nat.{◌<◌}
 use native.Mathlib.Omega.{arith}
-use borrow.Author.Tests.{not-true, not-false}
-use lib.ListN.{length}
-use Rattle.plan.specs.Tables.{edges_of, edge_of}
-use Rattle.plan.proofs.Lists.{mem_at}
 use Rattle.walk.proofs.Truths.{so, not_so}
 use Rattle.walk.proofs.Sets.{one_shifted}
 use Rattle.plan.proofs.Tables.{within_listed}
 use Rattle.walk.proofs.Chaining.{its_listed}
 use Rattle.walk.proofs.Filling.{filled_skip, filled_put}
-use borrow.Author.Rules.{rules}
 use Rattle.walk.proofs.add_edge.Goals as goal
 
 pub is_present-requires : goal.is_present-requires

@@ -1,6 +1,5 @@
 -- `walk::allows`: each kind's test is what the definition asks of the distance.
 use lib.Dec.{leb→le, le→leb}
-use borrow.Author.Rules.{rules}
 use Rattle.walk.proofs.allows.Goals as goal
 
 pub returns-in-Reaches : goal.returns-in-Reaches

@@ -1,6 +1,5 @@
 -- `walk::distance`: the number at the node's place.
 use mathlib.Core.Path.{refl}
-use native.Mathlib.Omega.{arith}
 use Rattle.walk.proofs.distance.Goals as goal
 
 pub returns : goal.returns

@@ -1,12 +1,11 @@
 -- `walk::distances_by`: the walk over the sets of neighbours counts hops, that over the chains counts lengths.
-use borrow.Author.Rules.{rules}
 use Rattle.walk.proofs.distances_by.Goals as goal
 
 pub walk-requires : goal.walk-requires
 walk-requires c = record {
-      source_bound = c.requires.source_bound;
-      room = c.blank-distances.ensures;
-    }
+  source_bound = c.requires.source_bound;
+  room = c.blank-distances.ensures;
+}
 
 pub length_walk-requires : goal.length_walk-requires
 length_walk-requires c =

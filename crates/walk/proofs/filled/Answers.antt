@@ -1,10 +1,6 @@
 -- `walk::filled`: edge by edge, so the sets are those of the edges so far.
-use Prim.Native.Nat.{◌-◌, ◌≤◌}
 use native.Mathlib.Numerals.{add-one}
 use native.Mathlib.Omega.{arith}
-use Rattle.plan.specs.Tables.{edges_of}
-use Rattle.plan.specs.Meaning.{graph_of, true_in}
-use Rattle.walk.specs.Front.{UpTo}
 use Rattle.plan.proofs.Tables.{edges_most}
 use Rattle.walk.proofs.Filling.{filled_none, filled_all}
 use Rattle.walk.proofs.filled.Goals as goal
@@ -14,11 +10,11 @@ loop-k-init c = (omega arith, filled_none _ _)
 
 pub add_edge-requires : goal.add_edge-requires
 add_edge-requires c = record {
-      inside = c.requires.inside;
-      placed = c.requires.placed;
-      k_in_bounds = omega arith;
-      up_to = c.loop-k.invariant.1;
-    }
+  inside = c.requires.inside;
+  placed = c.requires.placed;
+  k_in_bounds = omega arith;
+  up_to = c.loop-k.invariant.1;
+}
 
 pub loop-k-preserved : goal.loop-k-preserved
 loop-k-preserved c = (omega arith, rw (add-one c.loop-k.k) c.add_edge.ensures)

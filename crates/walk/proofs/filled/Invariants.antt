@@ -1,11 +1,7 @@
 use Prim.Native.Nat.{◌-◌, ◌≤◌}
-use native.Mathlib.Numerals.{add-one}
-use native.Mathlib.Omega.{arith}
 use Rattle.plan.specs.Tables.{edges_of}
 use Rattle.plan.specs.Meaning.{graph_of, true_in}
 use Rattle.walk.specs.Front.{UpTo}
-use Rattle.plan.proofs.Tables.{edges_most}
-use Rattle.walk.proofs.Filling.{filled_none, filled_all}
 use Rattle.walk.proofs.filled.Given as goal
 
 abbrev pub invariant-loop-k : goal.invariant-loop-k

@@ -1,6 +1,5 @@
 -- `walk::has`: the set shifted by the node ends in the node's bit.
 use mathlib.Core.Path.{sym}
-use borrow.Author.Rules.{rules}
 use Rattle.walk.proofs.Sets.{bit_shift}
 use Rattle.walk.proofs.has.Goals as goal
 

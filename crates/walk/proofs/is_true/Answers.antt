@@ -1,6 +1,4 @@
 -- `walk::is_true`: the target is reached and its distance is allowed exactly if the atom is true.
-use borrow.Author.Rules.{rules}
-use borrow.Author.Tests.{not-true, not-false}
 use Rattle.plan.specs.Tables.{atom_of}
 use Rattle.walk.proofs.Truths.{so, not_so, true_none, true_allowed}
 use Rattle.walk.proofs.is_true.Goals as goal

@@ -1,5 +1,4 @@
 -- `walk::neighbours`: whichever graph is named, the sets are its own.
-use borrow.Author.Rules.{rules}
 use Rattle.walk.proofs.neighbours.Goals as goal
 
 pub returns-in-Under : goal.returns-in-Under

@@ -1,7 +1,6 @@
 -- `walk::settled`: true by the one table is "holds", false by the other "fails", neither is "open".
 use mathlib.Core.Path.{refl}
 use mathlib.Core.Bool.{Bool, true, false}
-use borrow.Author.Rules.{rules}
 use Rattle.plan.specs.Closing.{Settles}
 use mathlib.Core.List.{List}
 use lib.IntN.{ℤ}

@@ -1,13 +1,11 @@
 -- `walk::visit`: the lowest node of what is left gets its count and its place in the queue, until nothing is left.
 use mathlib.Core.Path.{◌≡◌}
-use mathlib.Core.List.{List}
-use Prim.Native.Nat.{ℕ, suc, ◌+◌, ◌-◌, ◌^◌, ◌<◌, ◌≤◌}
+use Prim.Native.Nat.{suc, ◌-◌}
 use native.Mathlib.Omega.{arith}
 use lib.Bits.{bit_and}
-use lib.ListN.{length, length-set}
+use lib.ListN.{length-set}
 use lib.Count.{count_trailing_zeros}
-use Rattle.walk.specs.Walking.{Room}
-use Rattle.walk.specs.Front.{size, Visited}
+use Rattle.walk.specs.Front.{size}
 use Rattle.walk.proofs.Sets.{less_lowest, size_less, Taken, taken}
 use Rattle.walk.proofs.Visits.{visited_none, visited_more}
 use Rattle.walk.proofs.visit.Goals as goal
@@ -48,8 +46,7 @@ pub loop-rest-smaller : goal.loop-rest-smaller
 loop-rest-smaller c = (lowest c.before.before).fewer
 
 pub loop-rest-preserved : goal.loop-rest-preserved
-loop-rest-preserved c =
-    (
+loop-rest-preserved c = (
   omega (arith, smaller c.before.before),
   omega (arith, (lowest c.before.before).fewer),
   simp length-set c.loop-rest.invariant.2,

@@ -1,14 +1,9 @@
 use mathlib.Core.Path.{◌≡◌}
 use mathlib.Core.List.{List}
-use Prim.Native.Nat.{ℕ, suc, ◌+◌, ◌-◌, ◌^◌, ◌<◌, ◌≤◌}
-use native.Mathlib.Omega.{arith}
-use lib.Bits.{bit_and}
-use lib.ListN.{length, length-set}
-use lib.Count.{count_trailing_zeros}
+use Prim.Native.Nat.{ℕ, ◌+◌, ◌^◌, ◌<◌, ◌≤◌}
+use lib.ListN.{length}
 use Rattle.walk.specs.Walking.{Room}
 use Rattle.walk.specs.Front.{size, Visited}
-use Rattle.walk.proofs.Sets.{less_lowest, size_less, Taken, taken}
-use Rattle.walk.proofs.Visits.{visited_none, visited_more}
 use Rattle.walk.proofs.visit.Given as goal
 
 abbrev pub invariant-loop-rest : goal.invariant-loop-rest

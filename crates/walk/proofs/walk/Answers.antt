@@ -3,11 +3,10 @@ use mathlib.Core.Path.{◌≡◌, ◌∙◌}
 use Prim.Native.Nat.{◌-◌, ◌^◌, ◌<◌, ◌≤◌}
 use native.Mathlib.Numerals.{add-one}
 use native.Mathlib.Omega.{arith}
-use borrow.Author.Rules.{rules}
 use lib.ListN.{length-set}
 use lib.Pow.{pow-lt}
 use Rattle.walk.proofs.Sets.{one_shifted}
-use Rattle.walk.proofs.Breadth.{Bfs, tail_le, node_in, count_in, begin, left_part, left_room, left_turn, table}
+use Rattle.walk.proofs.Breadth.{tail_le, node_in, count_in, begin, left_part, left_room, left_turn, table}
 use Rattle.walk.proofs.walk.Goals as goal
 
 pub overflow_shl-left : goal.overflow_shl-left

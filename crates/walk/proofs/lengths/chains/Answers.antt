@@ -1,11 +1,7 @@
 -- `walk::lengths::chains`: edge by edge from the last one down, so the chains are those of the edges from there on.
 use mathlib.Core.Path.{◌≡◌, sym}
-use Prim.Native.Nat.{suc, ◌-◌, ◌*◌, ◌≤◌}
+use Prim.Native.Nat.{suc, ◌-◌}
 use native.Mathlib.Omega.{arith}
-use lib.ListN.{length}
-use Rattle.plan.specs.Meaning.{graph_of, true_in}
-use Rattle.plan.specs.Tables.{edges_of}
-use Rattle.walk.specs.Nearest.{ChainedFrom}
 use Rattle.walk.proofs.Chaining.{edges_count, chained_none, chained_all}
 use Rattle.walk.proofs.lengths.chains.Goals as goal
 

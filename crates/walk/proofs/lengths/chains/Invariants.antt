@@ -1,11 +1,8 @@
-use mathlib.Core.Path.{◌≡◌, sym}
-use Prim.Native.Nat.{suc, ◌-◌, ◌*◌, ◌≤◌}
-use native.Mathlib.Omega.{arith}
+use Prim.Native.Nat.{◌*◌, ◌≤◌}
 use lib.ListN.{length}
 use Rattle.plan.specs.Meaning.{graph_of, true_in}
 use Rattle.plan.specs.Tables.{edges_of}
 use Rattle.walk.specs.Nearest.{ChainedFrom}
-use Rattle.walk.proofs.Chaining.{edges_count, chained_none, chained_all}
 use Rattle.walk.proofs.lengths.chains.Given as goal
 
 abbrev pub invariant-loop-k : goal.invariant-loop-k

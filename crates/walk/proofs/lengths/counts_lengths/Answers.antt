@@ -2,7 +2,6 @@
 use mathlib.Core.Path.{◌≡◌, sym, ◌∙◌}
 use Prim.Native.Nat.{ℕ}
 use native.Mathlib.Omega.{arith}
-use borrow.Author.Rules.{rules}
 use Rattle.plan.specs.declared.Measure.TheVariants.{Hops, Lengths}
 use Rattle.walk.proofs.lengths.counts_lengths.Goals as goal
 

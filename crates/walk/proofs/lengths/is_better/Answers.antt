@@ -1,7 +1,5 @@
 -- `walk::lengths::is_better`: a node that is not known is better reached, and a known one where the distance is less.
 use mathlib.Core.Path.{sym, ◌∙◌}
-use borrow.Author.Rules.{rules}
-use borrow.Author.Tests.{not-true, not-false}
 use Rattle.walk.proofs.lengths.is_better.Goals as goal
 
 pub returns-then-not-has : goal.returns-then-not-has

@@ -1,17 +1,11 @@
-use mathlib.Core.Path.{◌≡◌, refl, sym, ap, subst}
-use mathlib.Core.Logic.{◌↔◌, ⊎_elim}
-use Prim.Native.Nat.{ℕ, ◌+◌, ◌-◌, ◌^◌, ◌<◌, ◌≤◌}
-use native.Mathlib.Omega.{arith}
-use borrow.Author.Rules.{rules}
-use lib.Bits.{bit_or}
+use mathlib.Core.Path.{◌≡◌}
+use mathlib.Core.Logic.{◌↔◌}
+use Prim.Native.Nat.{ℕ, ◌-◌, ◌<◌, ◌≤◌}
 use lib.Dec.{T}
-use native.Mathlib.Decide.{dec_lt}
 use Rattle.plan.specs.Meaning.{atom, measure_of}
 use Rattle.plan.specs.Tables.{atoms_of}
 use Rattle.plan.specs.declared.Measure.TheVariants.{Lengths}
 use Rattle.walk.specs.Walking.{bit}
-use Rattle.walk.proofs.Truths.{so, not_so}
-use Rattle.walk.proofs.Sets.{bit_empty, one_shifted, more_old, more_new, more_which}
 use Rattle.walk.proofs.lengths.length_atoms.Given as goal
 
 abbrev pub invariant-loop-k : goal.invariant-loop-k

@@ -1,16 +1,12 @@
 -- `walk::lengths::length_walk`: nodes are done in the order of their distance, so each node's distance is the least once it is done.
 use mathlib.Core.Path.{◌∙◌}
-use Prim.Native.Nat.{◌-◌, ◌^◌, ◌<◌}
+use Prim.Native.Nat.{◌^◌, ◌<◌}
 use native.Mathlib.Omega.{arith}
 use borrow.Author.Rules.{rules}
 use lib.ListN.{length-set}
 use lib.Bits.{bit_or}
-use Rattle.plan.specs.Meaning.{Graph}
-use Rattle.plan.specs.Tables.{edges_of}
-use Rattle.walk.specs.Walking.{Chained}
-use Rattle.walk.specs.Front.{size}
 use Rattle.walk.proofs.Sets.{one_shifted, size_le}
-use Rattle.walk.proofs.Nearing.{Dijkstra, length_fits, begin, some_left, node_in, node_low, one_more, turn, table}
+use Rattle.walk.proofs.Nearing.{length_fits, begin, some_left, node_in, node_low, one_more, turn, table}
 use Rattle.walk.proofs.lengths.length_walk.Goals as goal
 
 pub offset_bounds-distances-source : goal.offset_bounds-distances-source

@@ -1,10 +1,9 @@
 -- `walk::lengths::lower`: the end of the edge gets the distance over it where `is_better` says so, and else keeps its own.
 use mathlib.Core.Path.{◌≡◌, refl, sym, ◌∙◌}
-use mathlib.Core.Logic.{◌⊎◌, inl, inr, ⊎_elim}
+use mathlib.Core.Logic.{◌⊎◌, inl, inr}
 use mathlib.Core.Bool.{true, false}
 use mathlib.Core.List.{List}
 use Prim.Native.Nat.{ℕ, ◌+◌}
-use borrow.Author.Rules.{rules}
 use lib.ListN.{get_or, set}
 use lib.Seq.{set-get_or}
 use Rattle.walk.specs.Nearest.{is_better, lowered}

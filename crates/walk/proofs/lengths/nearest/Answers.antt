@@ -1,13 +1,8 @@
 -- `walk::lengths::nearest`: the lowest node of what is left is compared with the nearest one so far, until nothing is left.
-use mathlib.Core.Path.{◌≡◌, refl, ◌∙◌}
-use mathlib.Core.Logic.{⊎_elim}
-use Prim.Native.Nat.{◌-◌, ◌<◌}
+use mathlib.Core.Path.{refl, ◌∙◌}
 use native.Mathlib.Omega.{arith}
-use lib.Bits.{bit_and}
-use lib.Count.{count_trailing_zeros}
-use lib.ListN.{get_or}
-use Rattle.walk.proofs.Sets.{Taken, taken}
-use Rattle.walk.proofs.Choosing.{Choosing, choose_start, choose_other, choose_same, choose_end}
+use Rattle.walk.proofs.Sets.{taken}
+use Rattle.walk.proofs.Choosing.{choose_start, choose_other, choose_same, choose_end}
 use Rattle.walk.proofs.lengths.nearest.Goals as goal
 use Rattle.walk.proofs.lengths.nearest.Goals.{then-distances-other, else-distances-other}
 

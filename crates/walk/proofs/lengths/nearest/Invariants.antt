@@ -1,12 +1,6 @@
-use mathlib.Core.Path.{◌≡◌, refl, ◌∙◌}
-use mathlib.Core.Logic.{⊎_elim}
-use Prim.Native.Nat.{◌-◌, ◌<◌}
-use native.Mathlib.Omega.{arith}
-use lib.Bits.{bit_and}
-use lib.Count.{count_trailing_zeros}
+use mathlib.Core.Path.{◌≡◌}
 use lib.ListN.{get_or}
-use Rattle.walk.proofs.Sets.{Taken, taken}
-use Rattle.walk.proofs.Choosing.{Choosing, choose_start, choose_other, choose_same, choose_end}
+use Rattle.walk.proofs.Choosing.{Choosing}
 use Rattle.walk.proofs.lengths.nearest.Given as goal
 
 abbrev pub invariant-loop-rest : goal.invariant-loop-rest

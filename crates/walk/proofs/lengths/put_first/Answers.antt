@@ -1,14 +1,8 @@
 -- `walk::lengths::put_first`: an edge that is in the graph becomes the first of its start, with the former first behind it; any other changes nothing.
 -- The edge is one of the table, so its start is a node, and its variable has a value.
 use mathlib.Core.Path.{sym, ap, ◌∙◌}
-use mathlib.Core.List.{Memᴰ}
 use Prim.Native.Nat.{◌<◌}
 use native.Mathlib.Omega.{arith}
-use borrow.Author.Rules.{rules}
-use borrow.Author.Tests.{not-true, not-false}
-use lib.ListN.{length}
-use Rattle.plan.specs.Tables.{edges_of, edge_of}
-use Rattle.plan.proofs.Lists.{mem_at}
 use Rattle.plan.proofs.Tables.{within_listed}
 use Rattle.walk.proofs.Truths.{so, not_so}
 use Rattle.walk.proofs.Chaining.{its_listed, chained_skip, chained_put}

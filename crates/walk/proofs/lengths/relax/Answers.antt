@@ -1,9 +1,8 @@
 -- `walk::lengths::relax`: along the chain, so the edges of the node that come before the next one are taken.
 use mathlib.Core.Path.{◌≡◌, ◌∙◌}
 use mathlib.Core.List.{List}
-use Prim.Native.Nat.{suc, ◌+◌, ◌-◌, ◌/◌, ◌<◌, ℕ}
+use Prim.Native.Nat.{suc, ◌+◌, ◌/◌, ◌<◌, ℕ}
 use native.Mathlib.Omega.{arith}
-use borrow.Author.Rules.{rules}
 use lib.ListN.{length, get_or}
 use Rattle.plan.specs.Meaning.{Edge, Graph, edge}
 use Rattle.plan.specs.Places.{First}
@@ -38,10 +37,10 @@ loop-k-init c = λ g h. relax_start h c.requires.node_bound
 
 pub lower-requires : goal.lower-requires
 lower-requires c = record {
-      to_bound = to_in _ _ _ _ c.requires.chains c.edge_at-edge.ensures c.loop-k-test.true;
-      near_bound = c.requires.node_bound_2;
-      room = (c.loop-k.invariant c.requires.chains.graph c.requires.chains.chained).done.long ∙ c.requires.room;
-    }
+  to_bound = to_in _ _ _ _ c.requires.chains c.edge_at-edge.ensures c.loop-k-test.true;
+  near_bound = c.requires.node_bound_2;
+  room = (c.loop-k.invariant c.requires.chains.graph c.requires.chains.chained).done.long ∙ c.requires.room;
+}
 
 pub overflow_shl-reached : goal.overflow_shl-reached
 overflow_shl-reached c = omega (arith, c.wide.ensures, to_in _ _ _ _ c.requires.chains c.edge_at-edge.ensures c.loop-k-test.true)

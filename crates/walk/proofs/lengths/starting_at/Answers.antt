@@ -1,13 +1,9 @@
 -- `walk::lengths::starting_at`: each atom of the set is looked at once, and kept where it starts at the node.
-use mathlib.Core.Path.{◌≡◌, sym, ap, ◌∙◌}
-use mathlib.Core.Logic.{inl, inr, ⊎_elim}
-use Prim.Native.Nat.{◌<◌}
+use mathlib.Core.Path.{sym, ap, ◌∙◌}
+use mathlib.Core.Logic.{inl, inr}
 use native.Mathlib.Omega.{arith}
-use lib.Count.{count_trailing_zeros}
-use Rattle.plan.specs.Meaning.{atom}
-use Rattle.plan.specs.Tables.{atoms_of}
 use Rattle.walk.proofs.Sets.{taken}
-use Rattle.walk.proofs.Picking.{less_first, Left, left_all, left_less, Chosen, chosen_none, chosen_all, chosen_lowest}
+use Rattle.walk.proofs.Picking.{less_first, left_all, left_less, chosen_none, chosen_all, chosen_lowest}
 use Rattle.walk.proofs.Asked.{asked_within}
 use Rattle.walk.proofs.lengths.starting_at.Goals as goal
 use Rattle.walk.proofs.lengths.starting_at.Goals.{then-atom-source, else-atom-source}

@@ -1,13 +1,7 @@
-use mathlib.Core.Path.{◌≡◌, sym, ap, ◌∙◌}
-use mathlib.Core.Logic.{inl, inr, ⊎_elim}
-use Prim.Native.Nat.{◌<◌}
-use native.Mathlib.Omega.{arith}
-use lib.Count.{count_trailing_zeros}
+use mathlib.Core.Path.{◌≡◌}
 use Rattle.plan.specs.Meaning.{atom}
 use Rattle.plan.specs.Tables.{atoms_of}
-use Rattle.walk.proofs.Sets.{taken}
-use Rattle.walk.proofs.Picking.{less_first, Left, left_all, left_less, Chosen, chosen_none, chosen_all, chosen_lowest}
-use Rattle.walk.proofs.Asked.{asked_within}
+use Rattle.walk.proofs.Picking.{Left, Chosen}
 use Rattle.walk.proofs.lengths.starting_at.Given as goal
 
 abbrev pub invariant-loop-rest : goal.invariant-loop-rest

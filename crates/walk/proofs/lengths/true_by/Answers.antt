@@ -1,16 +1,13 @@
 -- `walk::lengths::true_by`: each atom of the set is looked at once, and kept where the distances say that it is true.
 use mathlib.Core.Path.{refl, ap}
-use mathlib.Core.Logic.{◌≢◌, inl, inr, ⊎_elim}
-use mathlib.Core.List.{List}
-use Prim.Native.Nat.{ℕ, ◌<◌}
+use mathlib.Core.Logic.{◌≢◌, inl, inr}
+use Prim.Native.Nat.{ℕ}
 use native.Mathlib.Omega.{arith}
 use lib.Count.{count_trailing_zeros}
 use lib.Dec.{T}
-use Rattle.plan.specs.Meaning.{Edge, Graph, atom, own_length, IsTrue}
-use Rattle.plan.specs.Tables.{atoms_of}
-use Rattle.walk.specs.Walking.{bit, DistanceTable}
+use Rattle.walk.specs.Walking.{bit}
 use Rattle.walk.proofs.Sets.{taken}
-use Rattle.walk.proofs.Picking.{less_first, Left, left_all, left_less, Chosen, chosen_none, chosen_all, chosen_lowest}
+use Rattle.walk.proofs.Picking.{less_first, Left, left_all, left_less, chosen_none, chosen_all, chosen_lowest}
 use Rattle.walk.proofs.Truths.{so, not_so}
 use Rattle.walk.proofs.Asked.{asked_within, asked_true}
 use Rattle.walk.proofs.lengths.true_by.Goals as goal

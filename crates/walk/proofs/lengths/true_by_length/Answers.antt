@@ -4,22 +4,19 @@ use mathlib.Core.Logic.{◌≢◌}
 use mathlib.Core.List.{List}
 use Prim.Native.Nat.{ℕ, ◌-◌, ◌^◌, ◌<◌}
 use native.Mathlib.Omega.{arith}
-use borrow.Author.Rules.{rules}
 use lib.Bits.{bit_and}
 use lib.Count.{count_trailing_zeros}
-use lib.Dec.{T}
-use Rattle.plan.specs.Meaning.{Atom, Graph, atom, IsTrue}
-use Rattle.plan.specs.Tables.{edges_of, atoms_of}
-use Rattle.walk.specs.Walking.{bit, Chained, LengthAtoms, Room, Those}
-use Rattle.walk.proofs.Sets.{bit_empty, Taken, taken}
-use Rattle.walk.proofs.Picking.{Less, less_part, Left, left_all, left_less, Chosen, chosen_none, chosen_all, chosen_more}
+use Rattle.plan.specs.Meaning.{Atom, atom}
+use Rattle.walk.specs.Walking.{Those}
+use Rattle.walk.proofs.Sets.{bit_empty, taken}
+use Rattle.walk.proofs.Picking.{Less, less_part, Left, left_all, left_less, chosen_none, chosen_all, chosen_more}
 use Rattle.walk.proofs.Asked.{asked_within, asked_part}
 use Rattle.walk.proofs.lengths.true_by_length.Goals as goal
 
 -- those of the atoms left that start where the lowest of them starts
-same_out : {As : List Atom} {asked rest same from : ℕ} → Left asked rest → rest ≢ 0 → same < 2 ^ 64 → Those (λ k. (atom As k).from ≡ from) rest same → (A : Atom)
+same_out : (As : List Atom) {asked rest same : ℕ} (from : ℕ) → Left asked rest → rest ≢ 0 → same < 2 ^ 64 → Those (λ k. (atom As k).from ≡ from) rest same → (A : Atom)
     → A ≡ atom As (count_trailing_zeros 64 rest) → A.from ≡ from → Less same rest (bit_and rest (2 ^ 64 - 1 - same))
-same_out l some small h A is starts =
+same_out As from l some small h A is starts =
     less_part _ _ _ l.fits small (λ k t. ((h k).0 t).0) ((h _).1 ((taken _ l.fits some).is, sym (ap (λ x. x.from) is) ∙ starts))
 
 pub loop-rest-init : goal.loop-rest-init
@@ -46,14 +43,14 @@ pub true_by-those-requires : goal.true_by-those-requires
 true_by-those-requires c = asked_part (asked_part c.requires.length_atoms c.loop-rest.invariant.0.part) (λ k t. ((c.starting_at-same.ensures k).0 t).0)
 
 pub loop-rest-smaller : goal.loop-rest-smaller
-loop-rest-smaller c = (same_out c.loop-rest.invariant.0 c.loop-rest-test.true (omega arith) c.starting_at-same.ensures _ c.atom_at-first.ensures refl).fewer
+loop-rest-smaller c = (same_out _ _ c.loop-rest.invariant.0 c.loop-rest-test.true (omega arith) c.starting_at-same.ensures _ c.atom_at-first.ensures refl).fewer
 
 pub loop-rest-preserved : goal.loop-rest-preserved
 loop-rest-preserved c =
     let l = c.loop-rest.invariant in
     let w = c.length_walk.ensures in (
-      left_less l.0 (same_out c.loop-rest.invariant.0 c.loop-rest-test.true (omega arith) c.starting_at-same.ensures _ c.atom_at-first.ensures refl),
-      (λ g x. chosen_more _ _ _ _ l.0 (l.1 g x) _ _ _ (same_out c.loop-rest.invariant.0 c.loop-rest-test.true (omega arith) c.starting_at-same.ensures _ c.atom_at-first.ensures refl) (c.true_by-those.ensures _ g (λ k t.
+      left_less l.0 (same_out _ _ c.loop-rest.invariant.0 c.loop-rest-test.true (omega arith) c.starting_at-same.ensures _ c.atom_at-first.ensures refl),
+      (λ g x. chosen_more _ _ _ _ l.0 (l.1 g x) _ _ _ (same_out _ _ c.loop-rest.invariant.0 c.loop-rest-test.true (omega arith) c.starting_at-same.ensures _ c.atom_at-first.ensures refl) (c.true_by-those.ensures _ g (λ k t.
           rw ((c.starting_at-same.ensures k).0 t).1 (rw c.wide.ensures at (w.table g x))))),
       w.room,
     )

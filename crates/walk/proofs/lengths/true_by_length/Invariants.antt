@@ -1,16 +1,7 @@
-use mathlib.Core.Path.{sym, ap}
-use Prim.Native.Nat.{ℕ, ◌-◌, ◌^◌}
-use native.Mathlib.Omega.{arith}
-use borrow.Author.Rules.{rules}
-use lib.Bits.{bit_and}
-use lib.Count.{count_trailing_zeros}
-use lib.Dec.{T}
 use Rattle.plan.specs.Meaning.{Graph, atom, IsTrue}
 use Rattle.plan.specs.Tables.{edges_of, atoms_of}
-use Rattle.walk.specs.Walking.{bit, Chained, LengthAtoms, Room}
-use Rattle.walk.proofs.Sets.{bit_empty, Taken, taken}
-use Rattle.walk.proofs.Picking.{Less, less_part, Left, left_all, left_less, Chosen, chosen_none, chosen_all, chosen_more}
-use Rattle.walk.proofs.Asked.{asked_within, asked_part}
+use Rattle.walk.specs.Walking.{Chained, Room}
+use Rattle.walk.proofs.Picking.{Left, Chosen}
 use Rattle.walk.proofs.lengths.true_by_length.Given as goal
 
 -- of whatever graph the chains are: the loop does not know the side
