@@ -48,9 +48,10 @@ loop-rest-smaller c = (same_out _ _ c.loop-rest.invariant.0 c.loop-rest-test.tru
 pub loop-rest-preserved : goal.loop-rest-preserved
 loop-rest-preserved c =
     let l = c.loop-rest.invariant in
+    let less = same_out _ _ c.loop-rest.invariant.0 c.loop-rest-test.true (omega arith) c.starting_at-same.ensures _ c.atom_at-first.ensures refl in
     let w = c.length_walk.ensures in (
-      left_less l.0 (same_out _ _ c.loop-rest.invariant.0 c.loop-rest-test.true (omega arith) c.starting_at-same.ensures _ c.atom_at-first.ensures refl),
-      (λ g x. chosen_more _ _ _ _ l.0 (l.1 g x) _ _ _ (same_out _ _ c.loop-rest.invariant.0 c.loop-rest-test.true (omega arith) c.starting_at-same.ensures _ c.atom_at-first.ensures refl) (c.true_by-those.ensures _ g (λ k t.
+      left_less l.0 less,
+      (λ g x. chosen_more _ _ _ _ l.0 (l.1 g x) _ _ _ less (c.true_by-those.ensures _ g (λ k t.
           rw ((c.starting_at-same.ensures k).0 t).1 (rw c.wide.ensures at (w.table g x))))),
       w.room,
     )
