@@ -13,4 +13,4 @@ pub word-requires-3 : goal.word-requires-3
 word-requires-3 c = omega (arith, edge_least c.args.long, c.requires)
 
 pub returns : goal.returns
-returns c = record { from = c.word.ensures i; to = c.word-2.ensures i; length = c.length_in.ensures i; variable = c.word-3.ensures i }
+returns c = λ i. record { from = c.word.ensures i; to = c.word-2.ensures i; length = c.length_in.ensures i; variable = c.word-3.ensures i }

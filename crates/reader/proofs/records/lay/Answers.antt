@@ -9,7 +9,7 @@ use Rattle.reader.proofs.records.lay.Goals as goal
 pub returns-then-place-table : goal.returns-then-place-table
 returns-then-place-table c =
     let a = c.args in
-    let f : SFits w16 a.number = search needs in
+    let f : SFits w16 a.number = search rules in
     rw (to_z-of_z f) (laid_one _ a.place a.table.now (omega (arith, c.if-place-table.true)))
 
 pub returns-else-place-table : goal.returns-else-place-table
