@@ -1,0 +1,11 @@
+use Prim.Native.Nat.{◌+◌, ◌-◌}
+use native.Mathlib.Omega.{arith}
+use Rattle.clauses.specs.Rows.{alone_row, start_row}
+use Rattle.plan.proofs.Filling.{Filling, filling_start, filling_room, filling_turn, filling_end}
+use Rattle.clauses.proofs.block.put_start.Given as goal
+
+abbrev pub invariant-loop-w : goal.invariant-loop-w
+invariant-loop-w l = Filling (λ j. alone_row j l.source (l.first + j)) (l.nodes) l.at l.initial.out l.out l.end l.w
+
+abbrev pub decreases-loop-w : goal.decreases-loop-w
+decreases-loop-w l = l.nodes - l.w

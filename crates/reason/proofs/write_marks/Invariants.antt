@@ -1,0 +1,16 @@
+use mathlib.Core.Path.{◌≡◌, refl, sym, subst, ◌∙◌}
+use mathlib.Core.List.{map}
+use Prim.Native.Nat.{suc, ◌+◌, ◌-◌, ◌≤◌}
+use native.Mathlib.Omega.{arith}
+use lib.ListN.{length, length-map}
+use Rattle.plan.specs.Meaning.{literal_of}
+use Rattle.reason.specs.Marks.{premises, Appends}
+use Rattle.reason.proofs.Listing.{premises_zero, premises_count, premises_fewer, premises_next, appends_none, appends_then}
+use Rattle.reason.proofs.write_marks.Given as goal
+
+abbrev pub invariant-loop-v : goal.invariant-loop-v
+invariant-loop-v l =
+    (l.v ≤ l.variables) × (length l.out ≡ length l.initial.out) × Appends l.at (map (literal_of l.sign) (premises l.marks l.v)) l.initial.out l.out l.end
+
+abbrev pub decreases-loop-v : goal.decreases-loop-v
+decreases-loop-v l = l.variables - l.v
