@@ -4,7 +4,7 @@ use Rattle.reader.proofs.Kit.{◌≡◌, refl, sym, ap, ◌∙◌, subst, List, 
 use Rattle.plan.specs.Meaning.{PlanFile}
 use Rattle.reader.specs.Format.{Step, refuse, next, done, Reading, refused, accepted, onward, step_at, head_at, records, read_plan}
 use Rattle.reader.specs.Filling.{Tables, Room, Answers}
-use Rattle.plan.specs.Ranged.{max_nodes, max_variables, max_edges, max_atoms, max_clauses, max_literals, Ranged, literals}
+use Rattle.plan.specs.Ranged.{max_nodes, max_variables, max_edges, max_atoms, max_clauses, max_literals, Ranged}
 use Rattle.plan.proofs.Refusals.{one_refusal}
 use Rattle.reader.proofs.Accepts.{read_ranged}
 use Rattle.reader.proofs.Cases.{head_by, step_by, edge_by, atom_by, clause_by}

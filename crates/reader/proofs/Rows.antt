@@ -3,7 +3,6 @@
 use Rattle.reader.proofs.Kit.{◌≡◌, refl, sym, ap, ◌∙◌, Bool, true, false, ◌&&◌, ◌||◌, List, [], ◌∷◌, ◌++◌, append_assoc, append-nil, ℕ, zero, suc, ◌+◌, ◌-◌, ◌<◌, ◌≤◌, arith, eq-eqb, ne_eqb, eqb, ℤ, length, take, drop, get_or, set, length-set, length-drop, length-append}
 use lib.Seq.{take-suc-set, append_snoc, get_or-drop, get_or-take, drop-drop, length-take-le}
 use Rattle.plan.specs.Meaning.{Edge, Atom}
-use Rattle.plan.specs.Ranged.{literals}
 use Rattle.reader.specs.Format.{word, twos, edge_len, literals_in, literals_ok, literal_ok, serves, edge_uses, atom_uses}
 use Rattle.reader.specs.Filling.{last_is, rows_of, edge_row, atom_row}
 

@@ -1,6 +1,6 @@
 -- `head` leads where the definition does: each way out by the tests on the way to it.
-use Rattle.reader.proofs.Kit.{◌≡◌, refl, sym, ◌∙◌, true, List, ℕ, ◌≤◌, arith, rules, lt-leb, le-leb, eq-eqb, ne_eqb, leb, eqb, length}
-use Rattle.reader.specs.Format.{fits, tag_at, len_at, after, head_ok, head_at, word}
+use Rattle.reader.proofs.Kit.{◌≡◌, refl, sym, ◌∙◌, List, ℕ, arith, lt-leb, le-leb, eq-eqb, ne_eqb}
+use Rattle.reader.specs.Format.{head_ok, head_at, word}
 use Rattle.reader.specs.Filling.{refuses, leads}
 use Rattle.reader.proofs.Steps.{fits_is, empty_tables}
 use Rattle.reader.proofs.head.Goals as goal

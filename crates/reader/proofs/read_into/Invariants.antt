@@ -1,6 +1,4 @@
-use Rattle.reader.proofs.Kit.{◌-◌, rules}
-use Rattle.reader.proofs.Exact.{room_of}
-use Rattle.reader.proofs.Loop.{left, Reached, begins, answers_refused, answers_accepted, standing, goes_on, falls}
+use Rattle.reader.proofs.Loop.{left, Reached}
 use Rattle.reader.proofs.read_into.Given as goal
 
 abbrev pub invariant-loop-step : goal.invariant-loop-step

@@ -1,5 +1,5 @@
 -- `atom_in` reads the five numbers of an atom, the first as its kind.
-use Rattle.reader.proofs.Kit.{ap, ◌∙◌, ◌+◌, rules}
+use Rattle.reader.proofs.Kit.{ap, ◌∙◌}
 use Rattle.plan.specs.Meaning.{kind_of}
 use Rattle.reader.proofs.fields.atom_in.Goals as goal
 

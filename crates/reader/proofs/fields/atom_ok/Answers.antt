@@ -1,5 +1,5 @@
 -- `atom_ok` tests the kind first, then what an edge has too.
-use Rattle.reader.proofs.Kit.{sym, ◌∙◌, rules, not-true, not-false}
+use Rattle.reader.proofs.Kit.{sym, ◌∙◌}
 use Rattle.reader.proofs.fields.atom_ok.Goals as goal
 
 pub returns-then-not-kind_ok : goal.returns-then-not-kind_ok

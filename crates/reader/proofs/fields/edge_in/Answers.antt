@@ -1,5 +1,5 @@
 -- `edge_in` reads the numbers of an edge.
-use Rattle.reader.proofs.Kit.{arith, rules}
+use Rattle.reader.proofs.Kit.{arith}
 use Rattle.reader.proofs.Rows.{edge_least}
 use Rattle.reader.proofs.fields.edge_in.Goals as goal
 

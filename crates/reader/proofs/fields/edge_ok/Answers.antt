@@ -1,5 +1,5 @@
 -- `edge_ok` tests what an atom has too, then the length.
-use Rattle.reader.proofs.Kit.{sym, ◌∙◌, rules, not-true, not-false}
+use Rattle.reader.proofs.Kit.{sym, ◌∙◌}
 use Rattle.reader.proofs.fields.edge_ok.Goals as goal
 
 pub returns-then-not-ends_ok : goal.returns-then-not-ends_ok

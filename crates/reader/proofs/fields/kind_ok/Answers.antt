@@ -1,5 +1,5 @@
 -- `kind_ok` makes the definition's test of a kind's number and its bound.
-use Rattle.reader.proofs.Kit.{◌≡◌, sym, ap, ◌∙◌, rules, eq-eqb, ne_eqb}
+use Rattle.reader.proofs.Kit.{◌≡◌, sym, ap, ◌∙◌, eq-eqb, ne_eqb}
 use Rattle.plan.specs.Meaning.{number_of_kind, kind_of}
 use Rattle.reader.specs.Format.{kind_ok}
 use Rattle.reader.proofs.fields.kind_ok.Goals as goal

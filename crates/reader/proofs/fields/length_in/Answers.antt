@@ -1,5 +1,5 @@
 -- `length_in` reads an edge's fourth field where it has one; else the length is 1.
-use Rattle.reader.proofs.Kit.{sym, ap, ◌∙◌, Bool, arith, rules}
+use Rattle.reader.proofs.Kit.{sym, ap, ◌∙◌, Bool, arith}
 use Rattle.reader.specs.Format.{edge_len, length_in}
 use Rattle.reader.proofs.fields.length_in.Goals as goal
 

@@ -1,5 +1,5 @@
 -- `literal` reads 16 bits as the definition does, below 32,768 and from there on.
-use Rattle.reader.proofs.Kit.{sym, ◌∙◌, ◌-◌, arith, rules}
+use Rattle.reader.proofs.Kit.{sym, ◌∙◌, ◌-◌, arith}
 use mir.Facts.{to_z-of_z}
 use Rattle.reader.proofs.Bits.{small16, off_fits16, off_is16, twos_low, twos_high}
 use Rattle.reader.proofs.fields.literal.Goals as goal

@@ -1,5 +1,5 @@
 -- `literal_ok` tests a literal's bits as the definition tests the literal.
-use Rattle.reader.proofs.Kit.{rules, lt-leb, le-leb}
+use Rattle.reader.proofs.Kit.{lt-leb, le-leb}
 use Rattle.reader.proofs.Bits.{low_ok, high_ok}
 use Rattle.reader.proofs.fields.literal_ok.Goals as goal
 

@@ -1,5 +1,5 @@
 -- `record_fits` makes the definition's two tests of a record's room, by differences that do not wrap.
-use Rattle.reader.proofs.Kit.{◌≡◌, sym, ap, ◌∙◌, List, ℕ, ◌+◌, arith, rules, lt-leb, le-leb, length}
+use Rattle.reader.proofs.Kit.{◌≡◌, sym, ap, ◌∙◌, List, ℕ, ◌+◌, arith, lt-leb, le-leb, length}
 use Rattle.reader.specs.Format.{fits, after}
 use Rattle.reader.proofs.fields.record_fits.Goals as goal
 

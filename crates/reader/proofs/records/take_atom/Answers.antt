@@ -1,8 +1,8 @@
 -- `take_atom` leads where the definition does: each way out by the tests on the way to it.
-use Rattle.reader.proofs.Kit.{◌≡◌, sym, ap, ◌∙◌, Bool, true, List, ◌++◌, ℕ, ◌+◌, ◌*◌, arith, rules, lt-ltb, le-ltb, eq-eqb, ne_eqb, eqb-true, ltb, eqb, take}
+use Rattle.reader.proofs.Kit.{◌≡◌, sym, ap, ◌∙◌, Bool, true, List, ◌++◌, ℕ, ◌+◌, ◌*◌, arith, lt-ltb, le-ltb, eq-eqb, ne_eqb, eqb-true, eqb, take}
 use mathlib.Core.Path.{ap₂}
 use Rattle.plan.specs.Meaning.{Atom}
-use Rattle.reader.specs.Format.{len_at, after, word, kind_in, atom_in, atom_ok}
+use Rattle.reader.specs.Format.{len_at, after, atom_ok}
 use Rattle.reader.specs.Filling.{leads, last_is, atom_row}
 use Rattle.reader.proofs.Steps.{bad_length, out_of_range, too_many, shared, taken, atom_tests, atom_tables}
 use Rattle.reader.proofs.records.take_atom.Goals as goal

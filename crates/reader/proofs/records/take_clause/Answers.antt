@@ -1,5 +1,5 @@
 -- `take_clause` leads where the definition does: each way out by the tests on the way to it.
-use Rattle.reader.proofs.Kit.{◌≡◌, refl, sym, ap, ◌∙◌, Bool, true, List, ℕ, ◌+◌, ◌*◌, ◌/◌, ◌<◌, ◌≤◌, arith, rules, lt-ltb, le-ltb, lt-leb, le-leb, eq-eqb, ne_eqb, ltb, leb, eqb}
+use Rattle.reader.proofs.Kit.{◌≡◌, refl, sym, ap, ◌∙◌, Bool, true, List, ℕ, ◌+◌, ◌*◌, ◌/◌, arith, lt-ltb, le-ltb, lt-leb, le-leb, eq-eqb, ne_eqb, leb, eqb}
 use Rattle.reader.specs.Format.{len_at, clause_in, clause_len, literals_in, literals_ok}
 use Rattle.reader.specs.Filling.{leads}
 use Rattle.plan.proofs.Fronts.{up_to}
@@ -63,7 +63,7 @@ returns c =
     let len_is : c.wide-len.result ≡ len_at file s.at = c.wide-len.ensures ∙ c.word.ensures in
     let ranged = ranged_is file s.at _ _ c.take_literals.ensures.value len_is in
     let most : leb (s.counts.literals + len_at file s.at / 2) 4096 ≡ true =
-        ap (λ n. leb (s.counts.literals + n / 2) 4096) (sym len_is) ∙ le-leb _ 4096 c.if-counts-n-gt-MAX_LITERALS.false in
+    ap (λ n. leb (s.counts.literals + n / 2) 4096) (sym len_is) ∙ le-leb _ 4096 c.if-counts-n-gt-MAX_LITERALS.false in
     let laid = c.take_literals.ensures.laid c.if-not-take_literals.false in
     taken (clause_tests file s.at t) (long_is _ len_is c.if-n-len.false) (ranged ∙ c.if-not-take_literals.false)
     (simp (lt-ltb _ 1024 c.if-counts-ge-MAX.false, most)) refl

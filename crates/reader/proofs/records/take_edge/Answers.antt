@@ -1,7 +1,7 @@
 -- `take_edge` leads where the definition does: each way out by the tests on the way to it.
-use Rattle.reader.proofs.Kit.{◌≡◌, sym, ap, ◌∙◌, Bool, true, List, ◌++◌, ℕ, ◌+◌, ◌*◌, arith, rules, lt-ltb, le-ltb, eq-eqb, ne_eqb, eqb-true, ltb, eqb, take}
+use Rattle.reader.proofs.Kit.{◌≡◌, sym, ap, ◌∙◌, Bool, true, List, ◌++◌, ℕ, ◌+◌, ◌*◌, arith, lt-ltb, le-ltb, eq-eqb, ne_eqb, eqb-true, eqb, take}
 use Rattle.plan.specs.Meaning.{Edge}
-use Rattle.reader.specs.Format.{len_at, after, word, edge_len, edge_in, edge_ok}
+use Rattle.reader.specs.Format.{len_at, after, edge_len, edge_ok}
 use Rattle.reader.specs.Filling.{leads, last_is, edge_row}
 use Rattle.reader.proofs.Steps.{bad_length, out_of_range, too_many, shared, taken, edge_tests, edge_tables}
 use Rattle.reader.proofs.records.take_edge.Goals as goal

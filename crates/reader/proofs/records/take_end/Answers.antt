@@ -1,5 +1,5 @@
 -- `take_end` leads where the definition does.
-use Rattle.reader.proofs.Kit.{◌≡◌, sym, ◌∙◌, rules}
+use Rattle.reader.proofs.Kit.{sym, ◌∙◌}
 use Rattle.reader.proofs.Steps.{end_long, end_behind, end_here}
 use Rattle.reader.proofs.records.take_end.Goals as goal
 

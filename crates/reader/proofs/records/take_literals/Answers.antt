@@ -1,11 +1,10 @@
 -- `take_literals` tests each literal and lays it: those passed are in range and stand in the table, and those left decide.
-use Rattle.reader.proofs.Kit.{◌≡◌, refl, sym, ap, ◌∙◌, false≢true, Bool, true, false, List, [], ◌∷◌, ◌++◌, append-nil, ℕ, ◌+◌, ◌-◌, ◌*◌, ◌<◌, ◌≤◌, arith, rules, ℤ, pos, length}
+use Rattle.reader.proofs.Kit.{◌≡◌, sym, ap, ◌∙◌, false≢true, Bool, List, [], ◌∷◌, ◌++◌, append-nil, ℕ, ◌+◌, ◌-◌, arith, rules, ℤ, pos}
 use lib.Seq.{append_snoc}
 use mir.Facts.{to_z-of_z}
 use mir.Val.{SFits, to_z, of_z}
 use mir.Syntax.{w16}
-use Rattle.plan.specs.Front.{Laid}
-use Rattle.plan.proofs.Laying.{laid_none, laid_then, laid_as}
+use Rattle.plan.proofs.Laying.{laid_then, laid_as}
 use Rattle.reader.specs.Format.{word, twos, literal_ok, literals_ok, literals_in}
 use Rattle.reader.proofs.Rows.{literals_step, literals_none, literals_ok_step, literals_ok_stop, literals_ok_none}
 use Rattle.reader.proofs.records.take_literals.Goals as goal
@@ -42,9 +41,6 @@ loop-left-preserved c =
       append_snoc i.3 stored behind ∙ ap (λ y. i.3 ++ (y ∷ behind)) stored_is ∙ ap (λ x. i.3 ++ x) (sym next) ∙ i.4,
       laid_then i.5 c.lay.ensures,
     )
-
-pub loop-left-init : goal.loop-left-init
-loop-left-init c = (refl, refl, refl, [], refl, laid_none _ _)
 
 pub returns : goal.returns
 returns c =

@@ -1,12 +1,6 @@
-use Rattle.reader.proofs.Kit.{◌≡◌, refl, sym, ap, ◌∙◌, false≢true, List, [], ◌∷◌, ◌++◌, append-nil, ℕ, ◌+◌, ◌-◌, ◌*◌, arith, rules, not-true, not-false, ℤ, pos, length}
-use lib.Seq.{append_snoc}
-use mir.Facts.{to_z-of_z}
-use mir.Val.{to_z, of_z}
-use mir.Syntax.{w16}
+use Rattle.reader.proofs.Kit.{◌≡◌, List, ◌++◌, ◌+◌, ◌*◌, ℤ}
 use Rattle.plan.specs.Front.{Laid}
-use Rattle.plan.proofs.Laying.{laid_none, laid_then, laid_as}
-use Rattle.reader.specs.Format.{word, twos, literal_ok, literals_ok, literals_in}
-use Rattle.reader.proofs.Rows.{literals_step, literals_none, literals_ok_step, literals_ok_stop, literals_ok_none}
+use Rattle.reader.specs.Format.{literals_ok, literals_in}
 use Rattle.reader.proofs.records.take_literals.Given as goal
 
 abbrev pub invariant-loop-left : goal.invariant-loop-left

@@ -1,6 +1,6 @@
 -- `take_record` leads where the definition does, by the record's tag.
-use Rattle.reader.proofs.Kit.{◌≡◌, refl, sym, ◌∙◌, true, ◌≤◌, arith, rules, ne_eqb, length, get_or}
-use Rattle.reader.specs.Format.{after, step_at}
+use Rattle.reader.proofs.Kit.{◌≡◌, refl, sym, ◌∙◌, arith, ne_eqb, get_or}
+use Rattle.reader.specs.Format.{step_at}
 use Rattle.reader.specs.Filling.{refuses}
 use Rattle.reader.proofs.Steps.{fits_is}
 use Rattle.reader.proofs.records.take_record.Goals as goal
@@ -57,7 +57,7 @@ returns-in_default c =
     λ p t.
     let tag = get_or c.args.file.now c.args.at 0 in
     let none : (tag ≡ 1 → ⊥) × (tag ≡ 2 → ⊥) × (tag ≡ 3 → ⊥) × (tag ≡ 4 → ⊥) × (tag ≡ 5 → ⊥) × (tag ≡ 6 → ⊥) =
-        (omega arith, omega arith, omega arith, omega arith, omega arith, omega arith) in
+    (omega arith, omega arith, omega arith, omega arith, omega arith, omega arith) in
     rw (
       sym c.record_fits.ensures ∙ c.if-not-record_fits.false,
       ne_eqb _ 1 none.0,

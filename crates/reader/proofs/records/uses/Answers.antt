@@ -1,6 +1,5 @@
 -- `uses` finds a variable at the end of a row: the rows passed have other ones there, and the rows left decide.
-use Rattle.reader.proofs.Kit.{◌≡◌, refl, sym, ◌∙◌, ◌-◌, ◌≤◌, arith, take, drop}
-use Rattle.reader.specs.Filling.{last_is}
+use Rattle.reader.proofs.Kit.{refl, sym, ◌∙◌, arith}
 use Rattle.reader.proofs.Rows.{uses_hit, uses_miss, uses_end}
 use Rattle.reader.proofs.records.uses.Goals as goal
 

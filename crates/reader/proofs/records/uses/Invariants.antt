@@ -1,6 +1,5 @@
-use Rattle.reader.proofs.Kit.{◌≡◌, refl, sym, ◌∙◌, ◌-◌, ◌≤◌, arith, take, drop}
+use Rattle.reader.proofs.Kit.{◌≡◌, ◌-◌, ◌≤◌, take, drop}
 use Rattle.reader.specs.Filling.{last_is}
-use Rattle.reader.proofs.Rows.{uses_hit, uses_miss, uses_end}
 use Rattle.reader.proofs.records.uses.Given as goal
 
 abbrev pub invariant-loop-row : goal.invariant-loop-row
