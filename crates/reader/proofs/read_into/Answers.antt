@@ -1,10 +1,16 @@
 -- `read_into` answers with what the file reads as: each step of the code is one of the definition.
 use Rattle.reader.proofs.Exact.{room_of}
-use Rattle.reader.proofs.Loop.{begins, standing, goes_on, falls}
+use Rattle.reader.proofs.Loop.{begins, answers_refused, answers_accepted, standing, goes_on, falls}
 use Rattle.reader.proofs.read_into.Goals as goal
 
 pub loop-step-init : goal.loop-step-init
 loop-step-init c = begins _ (c.head-step.ensures _ _ _)
+
+pub returns-in-Refuse : goal.returns-in-Refuse
+returns-in-Refuse c = answers_refused c.loop-step.invariant c.in-Refuse.is
+
+pub returns-in-Done : goal.returns-in-Done
+returns-in-Done c = answers_accepted c.loop-step.invariant c.in-Done.is
 
 pub take_record-step-requires : goal.take_record-step-requires
 take_record-step-requires c =
