@@ -20,9 +20,6 @@ use Rattle.plan.proofs.Literals.{bits_true, true_bits}
 use Rattle.plan.proofs.Places.{without_none, without_more}
 use Rattle.judge.proofs.has_true.Goals as goal
 
-abbrev TrueAt : List ℤ → List ℤ → ℕ → Type 0
-TrueAt a C k = T (true_in a (get_or C k (pos 0)))
-
 pub loop-k-init : goal.loop-k-init
 loop-k-init c = (omega arith, without_none _ 0)
 

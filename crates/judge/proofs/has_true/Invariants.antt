@@ -19,6 +19,9 @@ use Rattle.plan.proofs.Literals.{bits_true, true_bits}
 use Rattle.plan.proofs.Places.{without_none, without_more}
 use Rattle.judge.proofs.has_true.Given as goal
 
+abbrev pub TrueAt : List ℤ → List ℤ → ℕ → Type 0
+TrueAt a C k = T (true_in a (get_or C k (pos 0)))
+
 abbrev pub invariant-loop-k : goal.invariant-loop-k
 invariant-loop-k l = (l.k ≤ length l.clause) × Without (TrueAt l.assignment l.clause) 0 l.k
 
