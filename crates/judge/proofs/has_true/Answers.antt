@@ -1,7 +1,6 @@
 -- The literals of a clause, one by one, up to the first that is true.
 use mathlib.Core.Path.{ap, subst, ◌∙◌}
 use mathlib.Core.List.{List}
-use Prim.Native.Nat.{ℕ, ◌-◌, ◌≤◌}
 use native.Mathlib.Omega.{arith}
 use borrow.Author.Rules.{rules}
 use lib.IntN.{ℤ, pos}
@@ -14,7 +13,6 @@ use mathlib.Core.Path.{◌≡◌}
 use Rattle.plan.specs.Meaning.{true_in}
 use Rattle.plan.specs.Ranged.{LiteralFits}
 use Rattle.plan.specs.Tables.{literal_value}
-use Rattle.plan.specs.Places.{Without}
 use Rattle.plan.proofs.Lists.{mem_at, at_mem}
 use Rattle.plan.proofs.Literals.{bits_true, true_bits}
 use Rattle.plan.proofs.Places.{without_none, without_more}
@@ -72,8 +70,7 @@ loop-k-preserved c =
     (omega arith, without_more _ c.loop-k.invariant.1 (λ t. c.if-value-eq1.false (true_bits c.args.assignment.now (get_or c.args.clause.now c.loop-k.k (pos 0)) c.value_of-value.result c.requires.assigned fits (value_is c) t)))
 
 pub returns : goal.returns
-returns c =
-    (
+returns c = (
   (λ z. absurd z),
   (λ h.
       let q = at_mem c.args.clause.now (pos 0) h.0 h.1 in

@@ -1,5 +1,4 @@
 -- `judge::is_right`: the variable's value beside the atom's truth.
-use borrow.Author.Rules.{rules}
 use Rattle.plan.specs.Meaning.{true_in, on}
 use Rattle.walk.proofs.Truths.{so, not_so}
 use Rattle.judge.proofs.Rights.{right_on, right_off}

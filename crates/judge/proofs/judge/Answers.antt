@@ -9,7 +9,6 @@ use Rattle.judge.specs.Judgements.{FirstIs, RightIn}
 use Rattle.judge.specs.declared.First.{First}
 use Rattle.judge.specs.declared.First.TheVariants.{At, Nowhere}
 use Rattle.judge.proofs.Lending.{full_assigned, few, lent_clauses, lent_atoms}
-use borrow.Author.Rules.{rules}
 use Rattle.judge.proofs.judge.Goals as goal
 
 pub first_untrue-clause-requires : goal.first_untrue-clause-requires

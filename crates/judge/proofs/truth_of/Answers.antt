@@ -1,5 +1,4 @@
 -- `judge::truth_of`: the set tells for an atom that counts lengths, the distances for another.
-use borrow.Author.Rules.{rules}
 use Rattle.walk.proofs.Truths.{so, not_so}
 use Rattle.judge.proofs.truth_of.Goals as goal
 

@@ -10,9 +10,9 @@ returns-then-next-source c =
 
 pub walk-requires : goal.walk-requires
 walk-requires c = record {
-      source_bound = c.requires.next_bound;
-      room = c.requires.walked.room;
-    }
+  source_bound = c.requires.next_bound;
+  room = c.requires.walked.room;
+}
 
 pub returns : goal.returns
 returns c = c.walk.ensures
