@@ -19,51 +19,28 @@ use Rattle.dimacs.proofs.Scans.{one_of, scan_bad, scan_good}
 use Rattle.dimacs.proofs.Verdicts.{rules_front}
 use Rattle.dimacs.proofs.read_behind.Goals as goal
 
--- the part that is lent
-module _ (c : goal.Joined-head-wide) where
-  fits : c.if-head-wide.room ≤ length c.args.table.now
-  fits = ⊎_elim (λ w. omega (arith, w.1)) (λ w. omega (arith, w.1)) c.if-head-wide.branch
-
-  few : 0 < c.if-head-wide.room → c.args.head.variables ≤ c.args.plan.variables
-  few l = ⊎_elim (λ w. omega (arith, w.0.taken, c.wide.ensures)) (λ w. absurd (omega (arith, w.1))) c.if-head-wide.branch
-
-  whole : c.args.head.variables ≤ c.args.plan.variables → c.if-head-wide.room ≡ length c.args.table.now
-  whole l = ⊎_elim (λ w. w.1) (λ w. absurd (omega (arith, w.0.left, c.wide.ensures))) c.if-head-wide.branch
-
-  size : length (take c.if-head-wide.room c.args.table.now) ≡ c.if-head-wide.room
-  size = length-take-le c.if-head-wide.room c.args.table.now fits
-
-pub slice_bounds-scan-end : goal.slice_bounds-scan-end
-slice_bounds-scan-end c = fits c
-
-pub slice_bounds-scan-end-2 : goal.slice_bounds-scan-end-2
-slice_bounds-scan-end-2 c = sym (size c.before)
-
-pub scan-scanned-requires : goal.scan-scanned-requires
-scan-scanned-requires c =
-    let p = c.requires in
-    (p.1.1, ((p.1.0.1, p.1.0.2), λ l. omega (arith, p.1.0.0, few c.before (omega (arith, size c.before)))))
-
-pub returns-in-Bad : goal.returns-in-Bad
-returns-in-Bad c =
-    let from : goal.Start = c.before.before in
-    let front : List ℤ = take c.if-head-wide.room from.args.table.now in
-    let filled : List ℤ = c.scan-scanned.new.table in
-    let text_is : Text = clauses (length from.args.text.now) from.args.head.at from.args.head.variables from.args.head.count [] nothing (left (between false) from.args.text.now from.args.head.end) in
-    let is_bad : {at : ℕ} → c.scan-scanned.result ≡ scan.Bad at → text_is ≡ bad at = λ e. scan_bad from.args.plan.clauses from.args.plan.literals front filled text_is e c.scan-scanned.ensures in
-    rw (is_bad c.in-Bad.is) (refl, refl)
+use Rattle.dimacs.proofs.read_behind.Goals.{then-head-wide, else-head-wide}
 
 pub returns-in-Good : goal.returns-in-Good
 returns-in-Good c =
-    let from : goal.Start = c.before.before in
-    let front : List ℤ = take c.if-head-wide.room from.args.table.now in
+    let a = c.args in
+    let room = c.if-head-wide.room in
+    let front : List ℤ = take room a.table.now in
     let filled : List ℤ = c.scan-scanned.new.table in
-    let text_is : Text = clauses (length from.args.text.now) from.args.head.at from.args.head.variables from.args.head.count [] nothing (left (between false) from.args.text.now from.args.head.end) in
-    let is_good : {t : Tally} → c.scan-scanned.result ≡ scan.Good t
-      → (rs : List Rule) × (text_is ≡ good from.args.head.at from.args.head.variables from.args.head.count rs)
-      × Tallied from.args.plan.clauses from.args.plan.literals rs nothing front filled t = λ e. scan_good from.args.plan.clauses from.args.plan.literals front filled (one_of _ _ _ _ _ _ _) e c.scan-scanned.ensures in
-    let a = (from).args in
-    let g = is_good c.in-Good.is in
-    rw g.1 (rules_front (rules_of a.plan.variables a.plan.clauses a.plan.literals (good a.head.at a.head.variables a.head.count g.0))
-    c.judged.result (filled) (drop c.if-head-wide.room a.table-1.now)
-    (c.judged.ensures g.0 (front) (filled) g.2 (λ l. size c.before.before.before.before.before.before.before ∙ whole c.before.before.before.before.before.before.before l ∙ c.requires.table_len)))
+    let text_is : Text = clauses (length a.text.now) a.head.at a.head.variables a.head.count [] nothing (left (between false) a.text.now a.head.end) in
+    let fits : room ≤ length a.table.now =
+      elim c.if-head-wide.branch [ then-head-wide w ↦ omega (arith, w.room-is) | else-head-wide w ↦ omega (arith, w.room-is) ]
+    in
+    let whole : a.head.variables ≤ a.plan.variables → room ≡ length a.table.now =
+      λ l. elim c.if-head-wide.branch [ then-head-wide w ↦ w.room-is | else-head-wide w ↦ absurd (omega (arith, w.if-head-wide.false, c.wide.ensures)) ]
+    in
+    let g : (rs : List Rule) × (text_is ≡ good a.head.at a.head.variables a.head.count rs) × Tallied a.plan.clauses a.plan.literals rs nothing front filled c.in-Good.tally =
+      scan_good a.plan.clauses a.plan.literals front filled (one_of _ _ _ _ _ _ _) c.in-Good.is c.scan-scanned.ensures
+    in
+    rw g.1
+    (rules_front
+    (rules_of a.plan.variables a.plan.clauses a.plan.literals (good a.head.at a.head.variables a.head.count g.0))
+    c.judged.result
+    filled
+    (drop room a.table.now)
+    (c.judged.ensures g.0 front filled g.2 (λ l. length-take-le room a.table.now fits ∙ whole l ∙ c.requires.table_len)))

@@ -5,14 +5,6 @@ use Rattle.dimacs.specs.Reading.{read_rules, read_text}
 use Rattle.dimacs.proofs.Verdicts.{heading_bad, heading_good}
 use Rattle.dimacs.proofs.read_rules.Goals as goal
 
-pub read_behind-requires : goal.read_behind-requires
-read_behind-requires c =
-    record {
-      table_len = c.requires.table_len;
-      variables_le_max_variables = c.requires.variables_le_max_variables;
-      end_in_bounds = (heading_good c.args.text.now (read_text c.args.text.now) c.in-Good.is c.head_of-heading.ensures).0;
-    }
-
 pub returns-in-Bad : goal.returns-in-Bad
 unfolding read_rules
 returns-in-Bad c =

@@ -21,22 +21,12 @@ returns-in-Bad-count c =
     (is_count _ _ c.count_at-variables.ensures c.in-Is.is).1 _
     ∙ is_bad_count _ _ c.count_at-count.ensures c.in-Bad-count.is _
 
-module _ (c : goal.In-Is-count) where
-  abbrev text : List ℕ
-  text = c.args.text.now
-
-  both : variables (length text) c.args.at (left (between false) text c.args.from)
-      ≡ behind (length text) c.args.at c.in-Is.most c.in-Is-count.number (left (between false) text c.in-Is-count.end)
-  unfolding variables count
-  both =
-      (is_count _ _ c.count_at-variables.ensures c.in-Is.is).1 _
-      ∙ (is_count _ _ c.count_at-count.ensures c.in-Is-count.is).1 _
-
-pub count_at-count-requires : goal.count_at-count-requires
-count_at-count-requires c = (is_count _ _ c.count_at-variables.ensures c.in-Is.is).0
-
-pub ended-requires : goal.ended-requires
-ended-requires c = (is_count _ _ c.count_at-count.ensures c.in-Is-count.is).0
-
 pub returns-in-Is-count : goal.returns-in-Is-count
-returns-in-Is-count c = rw (both c.before) c.ended.ensures
+unfolding variables count
+returns-in-Is-count c =
+    rw
+    (
+      (is_count _ _ c.count_at-variables.ensures c.in-Is.is).1 (λ n rest. count (length c.args.text.now) c.args.at n rest),
+      (is_count _ _ c.count_at-count.ensures c.in-Is-count.is).1 (λ n rest. behind (length c.args.text.now) c.args.at c.in-Is.most n rest),
+    )
+    c.ended.ensures

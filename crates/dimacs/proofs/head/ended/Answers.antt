@@ -7,7 +7,7 @@ use Rattle.dimacs.proofs.head.ended.Goals as goal
 
 pub returns-then-not-word : goal.returns-then-not-word
 returns-then-not-word c =
-    behind_more _ _ _ _ _ (is_ahead _ _ _ c.next_word-found.ensures c.in-Next.is) c.if-not-word.true
+    behind_more _ _ _ _ _ (is_ahead _ _ _ c.next_word-found.ensures c.in-Next.is) (not-true _ c.if-not-word.true)
 
 pub returns-in-Nothing : goal.returns-in-Nothing
 returns-in-Nothing c =
@@ -15,4 +15,4 @@ returns-in-Nothing c =
 
 pub returns-else-not-word : goal.returns-else-not-word
 returns-else-not-word c =
-    (c.requires, behind_line _ _ _ _ _ (is_ahead _ _ _ c.next_word-found.ensures c.in-Next.is) c.if-not-word.false)
+    (c.requires, behind_line _ _ _ _ _ (is_ahead _ _ _ c.next_word-found.ensures c.in-Next.is) (not-false _ c.if-not-word.false))

@@ -8,13 +8,9 @@ use Rattle.dimacs.specs.Scanning.{FieldAt}
 use Rattle.dimacs.proofs.ProblemLine.{is_field, is_bad_field, format_other, format_read}
 use Rattle.dimacs.proofs.head.format_at.Goals as goal
 
-module _ (c : goal.In-At) where
-  field : FieldAt c.args.text.now c.args.from c.in-At.word
-  field = is_field _ _ c.field_at-field.ensures c.in-At.is
-
 pub returns-then-not-is_format : goal.returns-then-not-is_format
 returns-then-not-is_format c =
-    format_other (field c.before.before.before) _ (sym c.is_format.ensures ∙ c.if-not-is_format.true)
+    format_other (is_field _ _ c.field_at-field.ensures c.in-At.is) _ (sym c.is_format.ensures ∙ c.if-not-is_format.true)
 
 pub returns-in-Bad : goal.returns-in-Bad
 unfolding cnf
@@ -22,16 +18,4 @@ returns-in-Bad c = is_bad_field _ _ c.field_at-field.ensures c.in-Bad.is _
 
 pub returns-else-not-is_format : goal.returns-else-not-is_format
 returns-else-not-is_format c =
-    rw (format_read (field c.before.before.before.before) c.args.at (sym c.is_format.ensures ∙ c.if-not-is_format.false)) c.counts_at.ensures
-
-pub slice_bounds-is_format-count : goal.slice_bounds-is_format-count
-slice_bounds-is_format-count c = omega (arith, (field c).some_bytes)
-
-pub slice_bounds-is_format-start : goal.slice_bounds-is_format-start
-slice_bounds-is_format-start c = omega (arith, (field c).some_bytes)
-
-pub slice_bounds-is_format-end : goal.slice_bounds-is_format-end
-slice_bounds-is_format-end c = (field c).within
-
-pub counts_at-requires : goal.counts_at-requires
-counts_at-requires c = (field c.before.before.before).within
+    rw (format_read (is_field _ _ c.field_at-field.ensures c.in-At.is) c.args.at (sym c.is_format.ensures ∙ c.if-not-is_format.false)) c.counts_at.ensures

@@ -9,29 +9,13 @@ use Rattle.dimacs.proofs.Spans.{is_ahead, is_none}
 use Rattle.dimacs.proofs.ProblemLine.{problem_none, problem_other, problem_read}
 use Rattle.dimacs.proofs.head.head_of.Goals as goal
 
-module _ (c : goal.In-Next) where
-  first : Ahead c.args.text.now 0 true c.in-Next.word
-  first = is_ahead _ _ _ c.next_word-found.ensures c.in-Next.is
-
 pub returns-then-not-is_problem : goal.returns-then-not-is_problem
 returns-then-not-is_problem c =
-    problem_other (first c.before.before.before) (sym c.is_problem.ensures ∙ c.if-not-is_problem.true)
+    problem_other (is_ahead _ _ _ c.next_word-found.ensures c.in-Next.is) (sym c.is_problem.ensures ∙ c.if-not-is_problem.true)
 
 pub returns-in-Nothing : goal.returns-in-Nothing
 returns-in-Nothing c = problem_none _ (is_none _ _ _ c.next_word-found.ensures c.in-Nothing.is)
 
 pub returns-else-not-is_problem : goal.returns-else-not-is_problem
 returns-else-not-is_problem c =
-    rw (problem_read (first c.before.before.before.before) (sym c.is_problem.ensures ∙ c.if-not-is_problem.false)) c.format_at.ensures
-
-pub slice_bounds-is_problem-count : goal.slice_bounds-is_problem-count
-slice_bounds-is_problem-count c = omega (arith, (first c).some_bytes)
-
-pub slice_bounds-is_problem-start : goal.slice_bounds-is_problem-start
-slice_bounds-is_problem-start c = omega (arith, (first c).some_bytes)
-
-pub slice_bounds-is_problem-end : goal.slice_bounds-is_problem-end
-slice_bounds-is_problem-end c = (first c).within
-
-pub format_at-requires : goal.format_at-requires
-format_at-requires c = (first c.before.before.before).within
+    rw (problem_read (is_ahead _ _ _ c.next_word-found.ensures c.in-Next.is) (sym c.is_problem.ensures ∙ c.if-not-is_problem.false)) c.format_at.ensures

@@ -20,40 +20,22 @@ loop-at-init c = let a = c.args in (omega arith, omega arith, some_digits a.most
 pub returns-then-not-is_digit : goal.returns-then-not-is_digit
 returns-then-not-is_digit c = c.loop-at.invariant.2 ∙ no_digit _ _ _ _ c.loop-at-test.true (sym c.is_digit.ensures ∙ c.if-not-is_digit.true)
 
-module _ (c : goal.Else-not-is_digit) where
-  abbrev word : List ℕ
-  word = c.args.word.now
-
-  abbrev most : ℕ
-  most = c.args.most
-
-  abbrev at : ℕ
-  at = c.loop-at.at
-
-  is_one : is_digit (get_or word at 0) ≡ true
-  is_one = sym c.is_digit.ensures ∙ c.if-not-is_digit.false
-
-  small : (zero_digit ≤ get_or word at 0) × (get_or word at 0 ≤ 57)
-  small = digit_range _ is_one
-
-  longer : magnitude most (drop c.args.from word)
-      ≡ up_to most (c.loop-at.value * 10 + (get_or word at 0 - zero_digit)) (drop (at + 1) word)
-  longer = c.loop-at.invariant.2 ∙ next_digit _ _ _ _ c.loop-at-test.true is_one
-
 pub overflow_sub-value : goal.overflow_sub-value
-overflow_sub-value c = (small c).0
-
-pub overflow_cast-value : goal.overflow_cast-value
-overflow_cast-value c = omega (arith, small c)
-
-pub overflow_add-value : goal.overflow_add-value
-overflow_add-value c = omega (arith, small c)
+overflow_sub-value c = (digit_range _ (sym c.is_digit.ensures ∙ c.if-not-is_digit.false)).0
 
 pub returns-then-value-most : goal.returns-then-value-most
-returns-then-value-most c = longer c.before ∙ too_much _ _ _ c.if-value-most.true
+returns-then-value-most c =
+    c.loop-at.invariant.2
+    ∙ next_digit _ _ _ _ c.loop-at-test.true (sym c.is_digit.ensures ∙ c.if-not-is_digit.false)
+    ∙ too_much _ _ _ c.if-value-most.true
 
 pub loop-at-preserved : goal.loop-at-preserved
-loop-at-preserved c = (omega arith, c.if-value-most.false, longer c.before)
+loop-at-preserved c =
+    (
+      omega arith,
+      c.if-value-most.false,
+      c.loop-at.invariant.2 ∙ next_digit _ _ _ _ c.loop-at-test.true (sym c.is_digit.ensures ∙ c.if-not-is_digit.false),
+    )
 
 pub returns : goal.returns
 returns c =

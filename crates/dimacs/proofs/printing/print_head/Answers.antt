@@ -7,10 +7,24 @@ use Rattle.dimacs.specs.Printing.{head_line}
 use Rattle.dimacs.proofs.Digits.{digits_most}
 use Rattle.dimacs.proofs.printing.print_head.Goals as goal
 
--- the places behind the two numbers
-module _ (c : goal.After-lay_byte-arg-1) where
-  first : c.lay_number-next.result ≤ c.args.at + 16
-  first = omega (arith, c.lay_bytes-next.ensures.count, c.lay_number-next.ensures.count, digits_most 10 c.args.variables)
+pub lay_byte-next-requires : goal.lay_byte-next-requires
+lay_byte-next-requires c = omega (arith, c.lay_bytes-next.ensures.count, c.lay_number-next.ensures.count, digits_most 10 c.args.variables)
+
+pub lay_number-next-requires-2 : goal.lay_number-next-requires-2
+lay_number-next-requires-2 c =
+    omega (arith, c.lay_bytes-next.ensures.count, c.lay_number-next.ensures.count, digits_most 10 c.args.variables, c.lay_byte-next.ensures.count)
+
+pub lay_byte-requires : goal.lay_byte-requires
+lay_byte-requires c =
+    omega (
+      arith,
+      c.lay_bytes-next.ensures.count,
+      c.lay_number-next.ensures.count,
+      digits_most 10 c.args.variables,
+      c.lay_byte-next.ensures.count,
+      c.lay_number-next-2.ensures.count,
+      digits_most 10 c.args.clauses,
+    )
 
 pub returns : goal.returns
 unfolding head_line
@@ -18,9 +32,3 @@ returns c =
     laid_then c.lay_bytes-next.ensures
     (laid_then c.lay_number-next.ensures
     (laid_then c.lay_byte-next.ensures (laid_then c.lay_number-next-2.ensures c.lay_byte.ensures)))
-
--- UNPLACED 4 of 8: omega (arith, first c.before)
-
--- UNPLACED 5 of 8: omega (arith, first c.before.before.before.before.before, c.lay_byte-next.ensures.count)
-
--- UNPLACED 6 of 8: omega (arith, second c.before)

@@ -2,10 +2,12 @@
 use mathlib.Core.Path.{sym, ap}
 use Prim.Native.Nat.{◌-◌, ◌≤◌, ◌<◌}
 use native.Mathlib.Omega.{arith}
+use borrow.Author.Rules.{rules}
 use lib.IntN.{pos}
 use lib.ListN.{length, take, get_or, length-take}
 use lib.Seq.{take_all}
 use mir.Syntax.{w32}
+use mir.Val.{SFits}
 use mir.Facts.{to_z-of_z}
 use Rattle.plan.specs.Front.{Laid}
 use Rattle.plan.proofs.Laying.{laid_as, laid_none, laid_then}
@@ -29,13 +31,6 @@ loop-i-preserved c =
     let numbers = c.args.numbers.now in
     let l : loop.i < length numbers = omega arith in
     let x = get_or numbers loop.i (pos 0) in
-    let given = laid_as (ap entry (to_z-of_z {w = w32} {z = x} (record { sfits = c.lay_entry-arg-in-loop-i-1.given }))) c.lay_entry-end.ensures in
+    let f : SFits w32 x = search rules in
+    let given = laid_as (ap entry (to_z-of_z f)) c.lay_entry-end.ensures in
     (omega arith, laid_as (sym (entries_next numbers loop.i l)) (laid_then loop.invariant.1 given))
-
-pub returns : goal.returns
-returns c =
-    let loop = c.loop-i in
-    laid_as (ap entries (take_all loop.i c.args.numbers.now (omega arith))) loop.invariant.1
-
-pub shape_of-out : goal.shape_of-out
-shape_of-out c = c.loop-i.invariant.1.same

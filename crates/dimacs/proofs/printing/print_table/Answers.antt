@@ -2,9 +2,12 @@
 use mathlib.Core.Path.{sym, ap}
 use Prim.Native.Nat.{◌-◌, ◌≤◌, ◌<◌}
 use native.Mathlib.Omega.{arith}
+use borrow.Author.Rules.{rules}
 use lib.IntN.{pos}
 use lib.ListN.{length, take, get_or, length-take}
 use lib.Seq.{take_all}
+use mir.Syntax.{w16}
+use mir.Val.{SFits}
 use Rattle.plan.specs.Front.{Laid}
 use Rattle.plan.proofs.Laying.{laid_as, laid_none, laid_then}
 use Rattle.plan.proofs.Signs.{wide_fits, wide_kept}
@@ -15,9 +18,6 @@ use Rattle.dimacs.proofs.printing.print_table.Goals as goal
 pub loop-i-init : goal.loop-i-init
 unfolding entries
 loop-i-init c = (omega arith, laid_none _ _)
-
-pub overflow_cast-value : goal.overflow_cast-value
-overflow_cast-value c = wide_fits (get_or c.args.clauses.now c.loop-i.i (pos 0)) (record { sfits = c.value-1.given })
 
 pub lay_entry-end-requires : goal.lay_entry-end-requires
 lay_entry-end-requires c =
@@ -31,13 +31,6 @@ loop-i-preserved c =
     let clauses = c.args.clauses.now in
     let l : loop.i < length clauses = omega arith in
     let x = get_or clauses loop.i (pos 0) in
-    let given = laid_as (ap entry (wide_kept x (record { sfits = c.value-1.given }))) c.lay_entry-end.ensures in
+    let f : SFits w16 x = search rules in
+    let given = laid_as (ap entry (wide_kept x f)) c.lay_entry-end.ensures in
     (omega arith, laid_as (sym (entries_next clauses loop.i l)) (laid_then loop.invariant.1 given))
-
-pub returns : goal.returns
-returns c =
-    let loop = c.loop-i in
-    laid_as (ap entries (take_all loop.i c.args.clauses.now (omega arith))) loop.invariant.1
-
-pub shape_of-out : goal.shape_of-out
-shape_of-out c = c.loop-i.invariant.1.same

@@ -7,8 +7,8 @@ use Rattle.dimacs.proofs.records.put_record.Goals as goal
 pub bounds-out-at : goal.bounds-out-at
 bounds-out-at c = tag_inside _ c.requires.room
 
-pub put_two-next-requires : goal.put_two-next-requires
-put_two-next-requires c = (count_room _ c.requires.room, c.requires.clause_len_bound)
+pub put_two-next-requires-clause-room : goal.put_two-next-requires-clause-room
+put_two-next-requires-clause-room c = count_room _ c.requires.room
 
 pub put_literals-requires : goal.put_literals-requires
 put_literals-requires c =
@@ -17,6 +17,3 @@ put_literals-requires c =
 pub returns : goal.returns
 returns c =
     record_put _ c.requires.room c.put_two-next.ensures c.put_literals.ensures
-
-pub shape_of-out : goal.shape_of-out
-shape_of-out c = put_length (returns c)

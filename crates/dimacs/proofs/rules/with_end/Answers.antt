@@ -5,8 +5,5 @@ use borrow.Author.Rules.{rules}
 use Rattle.dimacs.proofs.Tallies as tallies
 use Rattle.dimacs.proofs.rules.with_end.Goals as goal
 
-pub returns : goal.returns
-returns c = record {
-      result_value = omega arith;
-      tallied = λ done r before mid after h k. tallies.with_end h _ refl k c.fitting_with-fitting.ensures (c.past_with-past.ensures _ _ done r before mid h);
-    }
+pub returns-clause-tallied : goal.returns-clause-tallied
+returns-clause-tallied c = λ done r before mid after h k. tallies.with_end h _ refl k c.fitting_with-fitting.ensures (c.past_with-past.ensures _ _ done r before mid h)

@@ -12,6 +12,7 @@ use Rattle.dimacs.specs.Words.{between, divides, line_end}
 use Rattle.dimacs.specs.Scanning.{left}
 use Rattle.dimacs.proofs.Spans.{divided}
 use Rattle.dimacs.proofs.words.skip.Goals as goal
+use Rattle.dimacs.proofs.words.skip.Goals.{then-byte-eq10, else-byte-eq10}
 
 pub returns-then-not-is_divider : goal.returns-then-not-is_divider
 returns-then-not-is_divider c =
@@ -27,15 +28,14 @@ module _ (c : goal.Joined-byte-eq10) where
 
   fresh_is : c.if-byte-eq10.fresh ≡ (c.loop-at.fresh || eqb byte line_end)
   fresh_is =
-      ⊎_elim
-      (λ x. rw (eq-eqb _ line_end x.0.taken, or-true) x.1)
-      (λ x. rw (ne_eqb _ line_end x.0.left, or-false) x.1)
-      c.if-byte-eq10.branch
+      elim c.if-byte-eq10.branch [
+      | then-byte-eq10 w ↦ rw (eq-eqb _ line_end w.if-byte-eq10.true, or-true) w.fresh-is
+      | else-byte-eq10 w ↦ rw (ne_eqb _ line_end w.if-byte-eq10.false, or-false) w.fresh-is
+      ]
 
 pub loop-at-preserved : goal.loop-at-preserved
 loop-at-preserved c =
-    let t = turn c in
-    (omega arith, omega arith, t.loop-at.invariant.2 ∙ divided _ _ t.loop-at-test.true _ _ (divides_here c) (fresh_is c))
+    (omega arith, omega arith, c.loop-at.invariant.2 ∙ divided _ _ c.loop-at-test.true _ _ (divides_here c) (fresh_is c))
 
 pub returns : goal.returns
 returns c =

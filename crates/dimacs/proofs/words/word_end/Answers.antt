@@ -32,6 +32,3 @@ pub returns : goal.returns
 returns c =
     let loop = c.loop-at in
     record { after = loop.invariant.0; within = loop.invariant.1; same = λ w. loop.invariant.2 w ∙ word_over _ _ c.loop-at-test.false _ }
-
-pub loop-at-init : goal.loop-at-init
-loop-at-init c = (omega arith, omega arith, λ w. word_begins _ _ w)
