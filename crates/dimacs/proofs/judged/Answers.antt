@@ -2,7 +2,6 @@
 use mathlib.Core.Path.{refl}
 use Prim.Native.Nat.{◌≤◌}
 use native.Mathlib.Omega.{arith}
-use borrow.Author.Rules.{rules}
 use Rattle.dimacs.proofs.Verdicts.{read_is, wrong_count, many_variables, past_limit, within_limit}
 use Rattle.dimacs.proofs.judged.Goals as goal
 

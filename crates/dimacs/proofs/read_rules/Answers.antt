@@ -1,6 +1,5 @@
 -- `dimacs::read_rules`: the `p` line, and what stands behind it.
 use mathlib.Core.Path.{refl}
-use borrow.Author.Rules.{rules}
 use Rattle.dimacs.specs.Reading.{read_rules, read_text}
 use Rattle.dimacs.proofs.Verdicts.{heading_bad, heading_good}
 use Rattle.dimacs.proofs.read_rules.Goals as goal

@@ -1,13 +1,7 @@
 -- `head::counts_at` reads the two numbers, and then the line has to end.
-use mathlib.Core.Path.{◌≡◌, ◌∙◌}
-use mathlib.Core.Bool.{false}
-use mathlib.Core.List.{List}
-use Prim.Native.Nat.{ℕ}
-use borrow.Author.Rules.{rules}
+use mathlib.Core.Path.{◌∙◌}
 use lib.ListN.{length}
-use Rattle.dimacs.specs.Words.{between}
 use Rattle.dimacs.specs.Reading.{behind, count, variables}
-use Rattle.dimacs.specs.Scanning.{left}
 use Rattle.dimacs.proofs.ProblemLine.{is_count, is_bad_count}
 use Rattle.dimacs.proofs.head.counts_at.Goals as goal
 
@@ -24,8 +18,7 @@ returns-in-Bad-count c =
 pub returns-in-Is-count : goal.returns-in-Is-count
 unfolding variables count
 returns-in-Is-count c =
-    rw
-    (
+    rw (
       (is_count _ _ c.count_at-variables.ensures c.in-Is.is).1 (λ n rest. count (length c.args.text.now) c.args.at n rest),
       (is_count _ _ c.count_at-count.ensures c.in-Is-count.is).1 (λ n rest. behind (length c.args.text.now) c.args.at c.in-Is.most n rest),
     )

@@ -1,5 +1,4 @@
 -- `head::ended` takes the line as good if the next word stands on another, or there is none.
-use borrow.Author.Rules.{rules}
 use borrow.Author.Tests.{not-true, not-false}
 use Rattle.dimacs.proofs.Spans.{is_ahead, is_none}
 use Rattle.dimacs.proofs.ProblemLine.{behind_none, behind_more, behind_line}

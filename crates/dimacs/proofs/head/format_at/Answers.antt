@@ -1,10 +1,6 @@
 -- `head::format_at` compares the next word of the line with `cnf` and goes on with the numbers.
 use mathlib.Core.Path.{sym, ◌∙◌}
-use native.Mathlib.Omega.{arith}
-use borrow.Author.Rules.{rules}
-use borrow.Author.Tests.{not-true, not-false}
 use Rattle.dimacs.specs.Reading.{cnf}
-use Rattle.dimacs.specs.Scanning.{FieldAt}
 use Rattle.dimacs.proofs.ProblemLine.{is_field, is_bad_field, format_other, format_read}
 use Rattle.dimacs.proofs.head.format_at.Goals as goal
 

@@ -1,10 +1,5 @@
 -- `head::head_of` compares the text's first word with `p` and goes on with the rest of the line.
 use mathlib.Core.Path.{sym, ◌∙◌}
-use mathlib.Core.Bool.{true}
-use native.Mathlib.Omega.{arith}
-use borrow.Author.Rules.{rules}
-use borrow.Author.Tests.{not-true, not-false}
-use Rattle.dimacs.specs.Scanning.{Ahead}
 use Rattle.dimacs.proofs.Spans.{is_ahead, is_none}
 use Rattle.dimacs.proofs.ProblemLine.{problem_none, problem_other, problem_read}
 use Rattle.dimacs.proofs.head.head_of.Goals as goal

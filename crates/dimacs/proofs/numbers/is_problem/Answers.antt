@@ -1,6 +1,5 @@
 -- `dimacs::numbers::is_problem`: a word of another length is another word; one of one byte is compared by it.
 use mathlib.Core.Path.{sym}
-use borrow.Author.Rules.{rules}
 use Rattle.dimacs.specs.Reading.{problem}
 use Rattle.dimacs.proofs.Comparing.{other_length, one_byte}
 use Rattle.dimacs.proofs.numbers.is_problem.Goals as goal

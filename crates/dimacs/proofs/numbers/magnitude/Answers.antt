@@ -1,14 +1,7 @@
 -- `dimacs::numbers::magnitude`: in the loop, the digits passed make the value, which is not too much yet, and what is left decides as the whole does.
-use mathlib.Core.Path.{◌≡◌, sym, ◌∙◌}
-use mathlib.Core.Bool.{true}
-use mathlib.Core.List.{List}
-use Prim.Native.Nat.{ℕ, ◌+◌, ◌-◌, ◌*◌, ◌≤◌}
+use mathlib.Core.Path.{sym, ◌∙◌}
 use native.Mathlib.Omega.{arith}
-use borrow.Author.Rules.{rules}
-use borrow.Author.Tests.{not-true, not-false}
-use lib.ListN.{length, get_or, drop}
-use Rattle.dimacs.specs.Numbers.{zero_digit, is_digit, magnitude}
-use Rattle.dimacs.proofs.Values.{digit_range, up_to, no_digits, some_digits, next_digit, no_digit, too_much, all_read}
+use Rattle.dimacs.proofs.Values.{digit_range, no_digits, some_digits, next_digit, no_digit, too_much, all_read}
 use Rattle.dimacs.proofs.numbers.magnitude.Goals as goal
 
 pub returns-then-from-word : goal.returns-then-from-word
@@ -30,12 +23,11 @@ returns-then-value-most c =
     ∙ too_much _ _ _ c.if-value-most.true
 
 pub loop-at-preserved : goal.loop-at-preserved
-loop-at-preserved c =
-    (
-      omega arith,
-      c.if-value-most.false,
-      c.loop-at.invariant.2 ∙ next_digit _ _ _ _ c.loop-at-test.true (sym c.is_digit.ensures ∙ c.if-not-is_digit.false),
-    )
+loop-at-preserved c = (
+  omega arith,
+  c.if-value-most.false,
+  c.loop-at.invariant.2 ∙ next_digit _ _ _ _ c.loop-at-test.true (sym c.is_digit.ensures ∙ c.if-not-is_digit.false),
+)
 
 pub returns : goal.returns
 returns c =

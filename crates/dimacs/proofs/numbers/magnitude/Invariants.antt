@@ -1,13 +1,8 @@
-use mathlib.Core.Path.{◌≡◌, sym, ◌∙◌}
-use mathlib.Core.Bool.{true}
-use mathlib.Core.List.{List}
-use Prim.Native.Nat.{ℕ, ◌+◌, ◌-◌, ◌*◌, ◌≤◌}
-use native.Mathlib.Omega.{arith}
-use borrow.Author.Rules.{rules}
-use borrow.Author.Tests.{not-true, not-false}
-use lib.ListN.{length, get_or, drop}
-use Rattle.dimacs.specs.Numbers.{zero_digit, is_digit, magnitude}
-use Rattle.dimacs.proofs.Values.{digit_range, up_to, no_digits, some_digits, next_digit, no_digit, too_much, all_read}
+use mathlib.Core.Path.{◌≡◌}
+use Prim.Native.Nat.{◌-◌, ◌≤◌}
+use lib.ListN.{length, drop}
+use Rattle.dimacs.specs.Numbers.{magnitude}
+use Rattle.dimacs.proofs.Values.{up_to}
 use Rattle.dimacs.proofs.numbers.magnitude.Given as goal
 
 abbrev pub invariant-loop-at : goal.invariant-loop-at

@@ -2,7 +2,6 @@
 use mathlib.Core.Path.{sym, ◌∙◌, ap}
 use mathlib.Core.Bool.{true, false}
 use native.Mathlib.Omega.{arith}
-use borrow.Author.Rules.{rules}
 use Rattle.dimacs.specs.Numbers.{with_sign}
 use Rattle.dimacs.proofs.Values.{no_number, below_zero, no_sign}
 use Rattle.dimacs.proofs.numbers.number_in.Goals as goal

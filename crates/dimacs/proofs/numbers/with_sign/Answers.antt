@@ -1,5 +1,4 @@
 -- `dimacs::numbers::with_sign`: the size's two cases.
-use borrow.Author.Rules.{rules}
 use Rattle.dimacs.proofs.numbers.with_sign.Goals as goal
 
 pub returns-in-Is : goal.returns-in-Is

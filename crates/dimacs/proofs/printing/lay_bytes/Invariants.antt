@@ -1,11 +1,7 @@
-use mathlib.Core.Path.{sym, ap, ◌∙◌}
-use Prim.Native.Nat.{◌-◌, ◌≤◌, ◌<◌}
-use native.Mathlib.Numerals.{add-one}
-use native.Mathlib.Omega.{arith}
-use lib.ListN.{length, take, length-take}
-use lib.Seq.{take-suc, take_all}
+-- The bytes one by one: those of the beginning are laid.
+use Prim.Native.Nat.{◌-◌, ◌≤◌}
+use lib.ListN.{length, take}
 use Rattle.plan.specs.Front.{Laid}
-use Rattle.plan.proofs.Laying.{laid_as, laid_none, laid_then}
 use Rattle.dimacs.proofs.printing.lay_bytes.Given as goal
 
 abbrev pub invariant-loop-i : goal.invariant-loop-i

@@ -24,10 +24,10 @@ returns-then-value-eq0 c =
     let v = c.args.value in
     let f = c.ranges.value in
     let signed : Laid (sign v) c.args.at c.args.out.now c.if-value-lt0.out c.if-value-lt0.next =
-      elim c.if-value-lt0.branch [
+    elim c.if-value-lt0.branch [
       | then-value-lt0 w ↦ rw (w.out-is, w.next-is) (laid_as (sym (sign_below v (rw (to_z-of_z f) at w.if-value-lt0.true))) w.lay_byte-next.ensures)
       | else-value-lt0 w ↦ rw (w.out-is, w.next-is) (laid_as (sym (sign_none v (rw (to_z-of_z f) at w.if-value-lt0.false))) (laid_none c.args.at c.args.out.now))
-      ]
+    ]
     in
     pieces v (c.magnitude.ensures ∙ ap nat_abs (to_z-of_z f)) (divider_zero v (bits_eq w32 v 0 f c.if-value-eq0.true)) signed c.lay_number-next.ensures c.lay_byte.ensures
 
@@ -36,10 +36,10 @@ returns c =
     let v = c.args.value in
     let f = c.ranges.value in
     let signed : Laid (sign v) c.args.at c.args.out.now c.if-value-lt0.out c.if-value-lt0.next =
-      elim c.if-value-lt0.branch [
+    elim c.if-value-lt0.branch [
       | then-value-lt0 w ↦ rw (w.out-is, w.next-is) (laid_as (sym (sign_below v (rw (to_z-of_z f) at w.if-value-lt0.true))) w.lay_byte-next.ensures)
       | else-value-lt0 w ↦ rw (w.out-is, w.next-is) (laid_as (sym (sign_none v (rw (to_z-of_z f) at w.if-value-lt0.false))) (laid_none c.args.at c.args.out.now))
-      ]
+    ]
     in
     pieces
     v
@@ -53,14 +53,14 @@ pub lay_byte-requires : goal.lay_byte-requires
 lay_byte-requires c =
     let n = digits_most 10 c.magnitude.result in
     elim c.if-value-lt0.branch [
-    | then-value-lt0 w ↦ omega (arith, w.lay_byte-next.ensures.count, c.lay_number-next.ensures.count)
-    | else-value-lt0 w ↦ omega (arith, c.lay_number-next.ensures.count)
+      | then-value-lt0 w ↦ omega (arith, w.lay_byte-next.ensures.count, c.lay_number-next.ensures.count)
+      | else-value-lt0 w ↦ omega (arith, c.lay_number-next.ensures.count)
     ]
 
 pub lay_byte-requires-2 : goal.lay_byte-requires-2
 lay_byte-requires-2 c =
     let n = digits_most 10 c.magnitude.result in
     elim c.if-value-lt0.branch [
-    | then-value-lt0 w ↦ omega (arith, w.lay_byte-next.ensures.count, c.lay_number-next.ensures.count)
-    | else-value-lt0 w ↦ omega (arith, c.lay_number-next.ensures.count)
+      | then-value-lt0 w ↦ omega (arith, w.lay_byte-next.ensures.count, c.lay_number-next.ensures.count)
+      | else-value-lt0 w ↦ omega (arith, c.lay_number-next.ensures.count)
     ]

@@ -1,6 +1,5 @@
 -- The digits where there is room for all.
 use native.Mathlib.Omega.{arith}
-use borrow.Author.Rules.{rules}
 use Rattle.plan.proofs.Laying.{put_laid, laid_past}
 use Rattle.dimacs.specs.Printing.{numeral}
 use Rattle.dimacs.proofs.Digits.{digits_most}

@@ -1,7 +1,5 @@
 -- The pieces of the line, one behind the other.
-use Prim.Native.Nat.{◌+◌, ◌≤◌}
 use native.Mathlib.Omega.{arith}
-use borrow.Author.Rules.{rules}
 use Rattle.plan.proofs.Laying.{laid_then}
 use Rattle.dimacs.specs.Printing.{head_line}
 use Rattle.dimacs.proofs.Digits.{digits_most}

@@ -1,15 +1,13 @@
 -- The entries one by one: those of the table's beginning are laid.
 use mathlib.Core.Path.{sym, ap}
-use Prim.Native.Nat.{◌-◌, ◌≤◌, ◌<◌}
+use Prim.Native.Nat.{◌<◌}
 use native.Mathlib.Omega.{arith}
 use borrow.Author.Rules.{rules}
 use lib.IntN.{pos}
 use lib.ListN.{length, take, get_or, length-take}
-use lib.Seq.{take_all}
 use mir.Syntax.{w32}
 use mir.Val.{SFits}
 use mir.Facts.{to_z-of_z}
-use Rattle.plan.specs.Front.{Laid}
 use Rattle.plan.proofs.Laying.{laid_as, laid_none, laid_then}
 use Rattle.dimacs.specs.Printing.{entry, entries}
 use Rattle.dimacs.proofs.Digits.{entries_next, entries_length}

@@ -1,14 +1,7 @@
-use mathlib.Core.Path.{sym, ap}
-use Prim.Native.Nat.{◌-◌, ◌≤◌, ◌<◌}
-use native.Mathlib.Omega.{arith}
-use lib.IntN.{pos}
-use lib.ListN.{length, take, get_or, length-take}
-use lib.Seq.{take_all}
+use Prim.Native.Nat.{◌-◌, ◌≤◌}
+use lib.ListN.{length, take}
 use Rattle.plan.specs.Front.{Laid}
-use Rattle.plan.proofs.Laying.{laid_as, laid_none, laid_then}
-use Rattle.plan.proofs.Signs.{wide_fits, wide_kept}
-use Rattle.dimacs.specs.Printing.{entry, entries}
-use Rattle.dimacs.proofs.Digits.{entries_next, entries_length}
+use Rattle.dimacs.specs.Printing.{entries}
 use Rattle.dimacs.proofs.printing.print_table.Given as goal
 
 abbrev pub invariant-loop-i : goal.invariant-loop-i

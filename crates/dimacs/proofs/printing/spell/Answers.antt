@@ -1,7 +1,7 @@
 -- From the last digit to the first: who writes the digits that are left writes the whole number.
 use native.Mathlib.Omega.{arith}
 use Rattle.plan.proofs.Fronts.{put_length}
-use Rattle.dimacs.proofs.Spelling.{Spells, spells_start, spells_next, spells_all}
+use Rattle.dimacs.proofs.Spelling.{spells_start, spells_next, spells_all}
 use Rattle.dimacs.proofs.printing.spell.Goals as goal
 
 -- all is written

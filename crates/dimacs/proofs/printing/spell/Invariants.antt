@@ -1,6 +1,4 @@
-use native.Mathlib.Omega.{arith}
-use Rattle.plan.proofs.Fronts.{put_length}
-use Rattle.dimacs.proofs.Spelling.{Spells, spells_start, spells_next, spells_all}
+use Rattle.dimacs.proofs.Spelling.{Spells}
 use Rattle.dimacs.proofs.printing.spell.Given as goal
 
 abbrev pub invariant-loop-left : goal.invariant-loop-left

@@ -1,6 +1,6 @@
 -- The bound is ten to the power of the digits that are counted, and the number has no fewer.
-use mathlib.Core.Path.{◌≡◌, ap, ◌∙◌, sym}
-use Prim.Native.Nat.{◌-◌, ◌*◌, ◌≤◌, ◌<◌}
+use mathlib.Core.Path.{ap, ◌∙◌, sym}
+use Prim.Native.Nat.{◌*◌, ◌≤◌, ◌<◌}
 use native.Mathlib.Omega.{arith}
 use lib.ListN.{length}
 use Rattle.dimacs.specs.Printing.{numeral}

@@ -1,9 +1,8 @@
-use mathlib.Core.Path.{◌≡◌, ap, ◌∙◌, sym}
-use Prim.Native.Nat.{◌-◌, ◌*◌, ◌≤◌, ◌<◌}
-use native.Mathlib.Omega.{arith}
+use mathlib.Core.Path.{◌≡◌}
+use Prim.Native.Nat.{◌-◌, ◌≤◌}
 use lib.ListN.{length}
 use Rattle.dimacs.specs.Printing.{numeral}
-use Rattle.dimacs.proofs.Digits.{power, power_within, power_more, digits_most, digits_some, digits_few, digits_many}
+use Rattle.dimacs.proofs.Digits.{power}
 use Rattle.dimacs.proofs.printing.width.Given as goal
 
 abbrev pub invariant-loop-bound : goal.invariant-loop-bound

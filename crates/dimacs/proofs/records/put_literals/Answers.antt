@@ -1,16 +1,13 @@
 -- `dimacs::records::put_literals`: in the loop, the bytes of the literals passed stand.
 use mathlib.Core.Path.{◌≡◌, ap, ◌∙◌}
-use Prim.Native.Nat.{◌-◌, ◌≤◌}
 use native.Mathlib.Omega.{arith}
 use borrow.Author.Rules.{rules}
-use lib.IntN.{ℤ, pos}
-use lib.ListN.{length, get_or, take}
-use lib.Seq.{take_all}
+use lib.IntN.{pos}
+use lib.ListN.{get_or}
 use mir.Syntax.{w16}
 use mir.Val.{SFits}
 use mir.Facts.{to_z-of_z}
-use Rattle.plan.specs.Front.{Put}
-use Rattle.plan.proofs.Fronts.{put_none, put_as, put_length}
+use Rattle.plan.proofs.Fronts.{put_none}
 use Rattle.dimacs.specs.Records.{complement, literal_bytes}
 use Rattle.dimacs.proofs.Recording.{literal_room, literal_more}
 use Rattle.dimacs.proofs.records.put_literals.Goals as goal

@@ -1,17 +1,7 @@
-use mathlib.Core.Path.{◌≡◌, ap, ◌∙◌}
 use Prim.Native.Nat.{◌-◌, ◌≤◌}
-use native.Mathlib.Omega.{arith}
-use borrow.Author.Rules.{rules}
-use lib.IntN.{ℤ, pos}
-use lib.ListN.{length, get_or, take}
-use lib.Seq.{take_all}
-use mir.Syntax.{w16}
-use mir.Val.{SFits}
-use mir.Facts.{to_z-of_z}
+use lib.ListN.{length, take}
 use Rattle.plan.specs.Front.{Put}
-use Rattle.plan.proofs.Fronts.{put_none, put_as, put_length}
-use Rattle.dimacs.specs.Records.{complement, literal_bytes}
-use Rattle.dimacs.proofs.Recording.{literal_room, literal_more}
+use Rattle.dimacs.specs.Records.{literal_bytes}
 use Rattle.dimacs.proofs.records.put_literals.Given as goal
 
 abbrev pub invariant-loop-i : goal.invariant-loop-i

@@ -1,6 +1,4 @@
 -- `dimacs::records::put_record`: the tag, the length and the literals, one behind the other.
-use borrow.Author.Rules.{rules}
-use Rattle.plan.proofs.Fronts.{put_length}
 use Rattle.dimacs.proofs.Recording.{tag_inside, count_room, literals_room, record_put}
 use Rattle.dimacs.proofs.records.put_record.Goals as goal
 

@@ -1,11 +1,6 @@
 -- `dimacs::records::put_records`: in the loop, the records of the clauses before `start` stand.
-use Prim.Native.Nat.{◌-◌, ◌≤◌}
 use native.Mathlib.Omega.{arith}
-use borrow.Author.Rules.{rules}
-use lib.ListN.{length}
-use Rattle.plan.proofs.ClauseTable.{part_length}
-use Rattle.plan.proofs.Fronts.{put_length}
-use Rattle.dimacs.proofs.Recording.{Recorded, recorded_none, recorded_all, clause_room, recorded_more}
+use Rattle.dimacs.proofs.Recording.{recorded_none, recorded_all, clause_room, recorded_more}
 use Rattle.dimacs.proofs.records.put_records.Goals as goal
 
 pub loop-start-init : goal.loop-start-init

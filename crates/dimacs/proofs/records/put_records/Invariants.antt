@@ -1,10 +1,6 @@
 use Prim.Native.Nat.{◌-◌, ◌≤◌}
-use native.Mathlib.Omega.{arith}
-use borrow.Author.Rules.{rules}
 use lib.ListN.{length}
-use Rattle.plan.proofs.ClauseTable.{part_length}
-use Rattle.plan.proofs.Fronts.{put_length}
-use Rattle.dimacs.proofs.Recording.{Recorded, recorded_none, recorded_all, clause_room, recorded_more}
+use Rattle.dimacs.proofs.Recording.{Recorded}
 use Rattle.dimacs.proofs.records.put_records.Given as goal
 
 abbrev pub invariant-loop-start : goal.invariant-loop-start

@@ -1,6 +1,5 @@
 -- `dimacs::records::put_two`: two stores, one behind the other.
 use native.Mathlib.Omega.{arith}
-use borrow.Author.Rules.{rules}
 use lib.ListN.{length-set}
 use Rattle.dimacs.proofs.Recording.{two_stores}
 use Rattle.dimacs.proofs.records.put_two.Goals as goal

@@ -1,7 +1,6 @@
 -- `dimacs::rules::fits`: whether the clause that is not ended fits.
 use Prim.Native.Nat.{◌+◌}
 use native.Mathlib.Omega.{arith}
-use borrow.Author.Rules.{rules}
 use borrow.Author.Tests.{lt-ltb, le-ltb}
 use Rattle.plan.specs.Ranged.{max_clauses, max_literals}
 use Rattle.dimacs.proofs.Tallies.{leb_across}

@@ -1,23 +1,16 @@
 -- `dimacs::rules::scan`: the words behind the `p` line. The invariant: what the text reads as is what the clauses so far and the words that are
 -- left lead to, and there are at most as many places in use as bytes were passed. The measure is what is left of the text.
-use mathlib.Core.Path.{◌≡◌, refl, ◌∙◌}
-use Prim.Native.Nat.{◌+◌, ◌-◌, ◌≤◌}
+use mathlib.Core.Path.{refl, ◌∙◌}
 use native.Mathlib.Omega.{arith}
-use borrow.Author.Rules.{rules}
 use mathlib.Core.Bool.{false}
-use mathlib.Core.List.{[]}
-use lib.ListN.{length}
-use Rattle.dimacs.specs.Words.{between}
-use Rattle.dimacs.specs.Reading.{clauses, nothing}
-use Rattle.dimacs.specs.Scanning.{left, Ahead}
+use Rattle.dimacs.specs.Scanning.{Ahead}
 use Rattle.dimacs.proofs.Spans.{is_ahead, is_none}
-use Rattle.dimacs.proofs.Scans.{Underway, begins, ends_bad, ends_good, turns_bad, turns_on}
+use Rattle.dimacs.proofs.Scans.{begins, ends_bad, ends_good, turns_bad, turns_on}
 use Rattle.dimacs.proofs.rules.scan.Goals as goal
 
 pub loop-word-init : goal.loop-word-init
 loop-word-init c =
-    let a = c.args in
-    (
+    let a = c.args in (
       c.requires.end_in_bounds,
       omega arith,
       refl,
@@ -45,8 +38,7 @@ returns-in-Wrong c =
 pub loop-word-preserved : goal.loop-word-preserved
 loop-word-preserved c =
     let i = c.loop-word.invariant in
-    let ahead : Ahead c.args.text.now c.loop-word.at false c.in-Next.word = is_ahead _ _ _ c.next_word-found.ensures c.in-Next.is in
-    (
+    let ahead : Ahead c.args.text.now c.loop-word.at false c.in-Next.word = is_ahead _ _ _ c.next_word-found.ensures c.in-Next.is in (
       ahead.within,
       omega (arith, i.1, c.in-Goes.ensures.one_more, ahead.after, ahead.some_bytes),
       c.turn_by-turn.auto.table ∙ i.2,

@@ -1,15 +1,12 @@
-use mathlib.Core.Path.{◌≡◌, refl, ◌∙◌}
+use mathlib.Core.Path.{◌≡◌}
 use Prim.Native.Nat.{◌+◌, ◌-◌, ◌≤◌}
-use native.Mathlib.Omega.{arith}
-use borrow.Author.Rules.{rules}
 use mathlib.Core.Bool.{false}
 use mathlib.Core.List.{[]}
 use lib.ListN.{length}
 use Rattle.dimacs.specs.Words.{between}
 use Rattle.dimacs.specs.Reading.{clauses, nothing}
-use Rattle.dimacs.specs.Scanning.{left, Ahead}
-use Rattle.dimacs.proofs.Spans.{is_ahead, is_none}
-use Rattle.dimacs.proofs.Scans.{Underway, begins, ends_bad, ends_good, turns_bad, turns_on}
+use Rattle.dimacs.specs.Scanning.{left}
+use Rattle.dimacs.proofs.Scans.{Underway}
 use Rattle.dimacs.proofs.rules.scan.Given as goal
 
 abbrev pub invariant-loop-word : goal.invariant-loop-word

@@ -1,7 +1,5 @@
 -- `dimacs::rules::with_end`: the clause counts, and the first one past the limits is known with it.
 use mathlib.Core.Path.{refl}
-use native.Mathlib.Omega.{arith}
-use borrow.Author.Rules.{rules}
 use Rattle.dimacs.proofs.Tallies as tallies
 use Rattle.dimacs.proofs.rules.with_end.Goals as goal
 

@@ -1,11 +1,8 @@
 -- `words::line_end` stays in the comment up to the line's end, or to the text's.
-use mathlib.Core.Path.{◌≡◌, refl, ◌∙◌}
-use Prim.Native.Nat.{◌-◌, ◌≤◌}
+use mathlib.Core.Path.{refl, ◌∙◌}
 use native.Mathlib.Omega.{arith}
 use borrow.Author.Tests.{eq-eqb, ne_eqb}
-use lib.ListN.{length}
-use Rattle.dimacs.specs.Words.{comment, line_end}
-use Rattle.dimacs.specs.Scanning.{left}
+use Rattle.dimacs.specs.Words.{line_end}
 use Rattle.dimacs.proofs.Spans.{comment_goes, comment_ends, comment_over}
 use Rattle.dimacs.proofs.words.line_end.Goals as goal
 

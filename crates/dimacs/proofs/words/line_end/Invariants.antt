@@ -1,11 +1,8 @@
-use mathlib.Core.Path.{◌≡◌, refl, ◌∙◌}
+use mathlib.Core.Path.{◌≡◌}
 use Prim.Native.Nat.{◌-◌, ◌≤◌}
-use native.Mathlib.Omega.{arith}
-use borrow.Author.Tests.{eq-eqb, ne_eqb}
 use lib.ListN.{length}
-use Rattle.dimacs.specs.Words.{comment, line_end}
+use Rattle.dimacs.specs.Words.{comment}
 use Rattle.dimacs.specs.Scanning.{left}
-use Rattle.dimacs.proofs.Spans.{comment_goes, comment_ends, comment_over}
 use Rattle.dimacs.proofs.words.line_end.Given as goal
 
 abbrev pub invariant-loop-at : goal.invariant-loop-at

@@ -1,6 +1,5 @@
 -- `words::next_word` passes dividers and comments in turn, up to a byte that opens a word.
 use mathlib.Core.Path.{◌≡◌, sym, ◌∙◌}
-use mathlib.Core.Bool.{Bool}
 use lib.ListN.{get_or}
 use Rattle.std.proofs.Common.{arith}
 use Rattle.std.proofs.lemmas.Grind.{common_steps}

@@ -1,15 +1,12 @@
 -- `words::skip` passes the dividers one by one; behind an LF the line has no word yet.
 use mathlib.Core.Path.{◌≡◌, refl, sym, ◌∙◌}
-use mathlib.Core.Logic.{⊎_elim}
 use mathlib.Core.Bool.{true, ◌||◌, or-true, or-false}
-use Prim.Native.Nat.{ℕ, ◌-◌, ◌≤◌}
+use Prim.Native.Nat.{ℕ}
 use native.Mathlib.Omega.{arith}
-use borrow.Author.Rules.{rules}
-use borrow.Author.Tests.{eq-eqb, ne_eqb, not-true, not-false}
+use borrow.Author.Tests.{eq-eqb, ne_eqb}
 use lib.Dec.{eqb}
-use lib.ListN.{length, get_or}
-use Rattle.dimacs.specs.Words.{between, divides, line_end}
-use Rattle.dimacs.specs.Scanning.{left}
+use lib.ListN.{get_or}
+use Rattle.dimacs.specs.Words.{divides, line_end}
 use Rattle.dimacs.proofs.Spans.{divided}
 use Rattle.dimacs.proofs.words.skip.Goals as goal
 use Rattle.dimacs.proofs.words.skip.Goals.{then-byte-eq10, else-byte-eq10}
@@ -29,8 +26,8 @@ module _ (c : goal.Joined-byte-eq10) where
   fresh_is : c.if-byte-eq10.fresh ≡ (c.loop-at.fresh || eqb byte line_end)
   fresh_is =
       elim c.if-byte-eq10.branch [
-      | then-byte-eq10 w ↦ rw (eq-eqb _ line_end w.if-byte-eq10.true, or-true) w.fresh-is
-      | else-byte-eq10 w ↦ rw (ne_eqb _ line_end w.if-byte-eq10.false, or-false) w.fresh-is
+        | then-byte-eq10 w ↦ rw (eq-eqb _ line_end w.if-byte-eq10.true, or-true) w.fresh-is
+        | else-byte-eq10 w ↦ rw (ne_eqb _ line_end w.if-byte-eq10.false, or-false) w.fresh-is
       ]
 
 pub loop-at-preserved : goal.loop-at-preserved

@@ -1,15 +1,8 @@
-use mathlib.Core.Path.{◌≡◌, refl, sym, ◌∙◌}
-use mathlib.Core.Logic.{⊎_elim}
-use mathlib.Core.Bool.{true, ◌||◌, or-true, or-false}
-use Prim.Native.Nat.{ℕ, ◌-◌, ◌≤◌}
-use native.Mathlib.Omega.{arith}
-use borrow.Author.Rules.{rules}
-use borrow.Author.Tests.{eq-eqb, ne_eqb, not-true, not-false}
-use lib.Dec.{eqb}
-use lib.ListN.{length, get_or}
-use Rattle.dimacs.specs.Words.{between, divides, line_end}
+use mathlib.Core.Path.{◌≡◌}
+use Prim.Native.Nat.{◌-◌, ◌≤◌}
+use lib.ListN.{length}
+use Rattle.dimacs.specs.Words.{between}
 use Rattle.dimacs.specs.Scanning.{left}
-use Rattle.dimacs.proofs.Spans.{divided}
 use Rattle.dimacs.proofs.words.skip.Given as goal
 
 abbrev pub invariant-loop-at : goal.invariant-loop-at

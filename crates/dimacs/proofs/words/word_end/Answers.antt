@@ -1,12 +1,7 @@
 -- `words::word_end` takes the bytes into the word one by one, up to a divider or the text's end.
-use mathlib.Core.Path.{◌≡◌, sym, ◌∙◌}
-use Prim.Native.Nat.{◌-◌, ◌≤◌}
+use mathlib.Core.Path.{sym, ◌∙◌}
 use native.Mathlib.Omega.{arith}
-use borrow.Author.Rules.{rules}
-use lib.ListN.{length}
-use Rattle.dimacs.specs.Words.{Word, inside}
-use Rattle.dimacs.specs.Scanning.{left, part}
-use Rattle.dimacs.proofs.Spans.{with, word_begins, word_longer, word_ends, word_over}
+use Rattle.dimacs.proofs.Spans.{word_longer, word_ends, word_over}
 use Rattle.dimacs.proofs.words.word_end.Goals as goal
 
 pub returns-then-is_divider : goal.returns-then-is_divider

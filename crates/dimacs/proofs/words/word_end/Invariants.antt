@@ -1,11 +1,9 @@
-use mathlib.Core.Path.{◌≡◌, sym, ◌∙◌}
+use mathlib.Core.Path.{◌≡◌}
 use Prim.Native.Nat.{◌-◌, ◌≤◌}
-use native.Mathlib.Omega.{arith}
-use borrow.Author.Rules.{rules}
 use lib.ListN.{length}
 use Rattle.dimacs.specs.Words.{Word, inside}
 use Rattle.dimacs.specs.Scanning.{left, part}
-use Rattle.dimacs.proofs.Spans.{with, word_begins, word_longer, word_ends, word_over}
+use Rattle.dimacs.proofs.Spans.{with}
 use Rattle.dimacs.proofs.words.word_end.Given as goal
 
 abbrev pub invariant-loop-at : goal.invariant-loop-at
