@@ -3,9 +3,11 @@ pub mod ProblemLine
 pub mod Values
 pub mod Comparing
 pub mod Tallies
+pub mod Turns
 pub mod Scans
 pub mod Verdicts
 pub mod Ruled
+pub mod Complement
 pub mod RecordSizes
 pub mod Recording
 pub mod Digits

@@ -1,4 +1,4 @@
--- What stands of the clauses of a text, with the clause ended.
+-- What stands of the clauses of a text: with one literal more, and with the clause ended.
 -- Assumes nothing.
 use mathlib.Core.Path.{◌≡◌, refl, sym, ap, ◌∙◌}
 use mathlib.Core.Logic.{◌⊎◌, inl, inr}
@@ -17,7 +17,7 @@ use Rattle.plan.specs.Written.{flat}
 use Rattle.plan.proofs.ClauseTable.{flat_clause, count_clause}
 use Rattle.plan.proofs.Lists.{le_or_lt}
 use Rattle.plan.proofs.Laying.{laid_as, laid_then}
-use Rattle.dimacs.specs.Reading.{Rule, nothing, first_word, ended_at, literals_of, first_over}
+use Rattle.dimacs.specs.Reading.{Rule, nothing, begun, first_word, longer, ended_at, literals_of, first_over}
 use Rattle.dimacs.specs.Scanning.{used, fitting_with, Tallied}
 use Rattle.dimacs.specs.declared.rules.Tally.{Tally}
 
@@ -64,6 +64,31 @@ over_more a b (q ∷ done) r =
     go false x z = refl
 
 module _ {a b : ℕ} {done : List Rule} {r : Rule} {before mid : List ℤ} {t : Tally} (h : Tallied a b done r before mid t) (at : ℕ) where
+  -- the first word of the clause that is not ended: this one, or the one that began it
+  pub first_here : t.unended ≡ 0 → at ≡ first_word r at
+  first_here u = sym (ap (λ x. cond x r.at at) (ap (ltb 0) (sym h.unended ∙ u)))
+
+  pub first_before : (t.unended ≡ 0 → ⊥) → t.start ≡ first_word r at
+  first_before u =
+      let z : begun r ≡ true = lt-ltb 0 (length r.literals) (omega (arith, h.unended)) in
+      h.begins z ∙ sym (ap (λ x. cond x r.at at) z)
+
+  -- a literal goes behind what stands there
+  pub with_literal : {l : ℤ} {s : ℕ} {after : List ℤ} → Laid (l ∷ []) (used t) mid after (used t + 1) → s ≡ first_word r at
+      → Tallied a b done (longer r at l) before after (record { clauses = t.clauses; literals = t.literals; fitting = t.fitting; past = t.past; start = s; unended = t.unended + 1 })
+  with_literal {l} {s} {after} k e = record {
+    clauses = h.clauses;
+    literals = h.literals;
+    begins = λ x. e;
+    unended = omega (arith, h.unended, length-append r.literals (l ∷ []));
+    fitting = h.fitting;
+    limit = h.limit;
+    stands = rw next (laid_as (append_assoc (flat (literals_of done)) r.literals (l ∷ [])) (laid_then h.stands k));
+  }
+    where
+      next : t.literals + t.clauses + (t.unended + 1) ≡ used t + 1
+      next = omega arith
+
   -- the first clause past the limits, with that clause; how many come before it
   module _ {fit : Bool} (fits : fit ≡ fits_behind (a + t.clauses) (b + t.literals + t.unended)) where
     limit_more : {p : ℕ} → p ≡ cond (ltb t.fitting t.clauses) t.past (first_word r at)
