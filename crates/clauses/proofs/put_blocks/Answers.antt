@@ -60,7 +60,7 @@ put_block-more-requires c =
     }
 
 pub overflow_add-end : goal.overflow_add-end
-overflow_add-end c = let l = c.loop-j in omega (arith, rest_length l.end l.out, l.inv.0.same, l.inv.0.put.inside)
+overflow_add-end c = let l = c.loop-j in omega (arith, rest_length l.end l.out, l.invariant.0.same, l.invariant.0.put.inside)
 
 pub block_variables-last-requires : goal.block_variables-last-requires
 block_variables-last-requires c =

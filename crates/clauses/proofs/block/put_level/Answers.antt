@@ -14,7 +14,11 @@ put_edges-at-requires c = record {
 pub put_nodes-requires : goal.put_nodes-requires
 unfolding level_row
 put_nodes-requires c =
-    (room_rest _ _ c.requires.room c.put_edges-at.ensures, c.requires.1)
+    record {
+      room = room_rest _ _ c.requires.room c.put_edges-at.ensures;
+      low = c.requires.low;
+      nodes_le_max_nodes = c.requires.nodes_le_max_nodes;
+    }
 
 pub returns : goal.returns
 unfolding level_row

@@ -37,7 +37,11 @@ put_level-end-requires c =
     let row_of : ℕ → ℕ → List ℤ = λ first m. let n = c.args.nodes in level_row (edges_of c.args.edges.now) n (record { nodes = first; edges = first + n; next = first + (n + m) }) in
     let row : row_of c.loop-i.first c.edge_count.result ≡ row_of (first_at (edges_of c.args.edges.now) c.args.nodes c.args.base c.loop-i.i) (length (edges_of c.args.edges.now)) = ap₂ row_of c.loop-i.invariant.1 c.edge_count.ensures in
     let low : Early (c.loop-i.first + (c.args.nodes + c.edge_count.result)) = omega (arith, c.edge_count.ensures, c.loop-i.invariant.1, level_low c.requires.low_block c.loop-i-test.true) in
-    (room_as (sym row) (filling_room c.loop-i.invariant.0 c.loop-i-test.true), omega (arith, low))
+    record {
+      room = room_as (sym row) (filling_room c.loop-i.invariant.0 c.loop-i-test.true);
+      low = omega (arith, low);
+      nodes_le_max_nodes = c.requires.low_block.nodes;
+    }
 
 pub loop-i-preserved : goal.loop-i-preserved
 loop-i-preserved c =

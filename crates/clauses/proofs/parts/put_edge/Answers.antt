@@ -13,24 +13,15 @@ use Rattle.clauses.proofs.parts.put_edge.Goals as goal
 pub edge_at-edge-requires : goal.edge_at-edge-requires
 edge_at-edge-requires c = edge_place c.args.edges.now c.args.k c.requires.k_in_bounds.0
 
--- the edge's numbers are read
-module _ (c : goal.After-out-6-1) where
-  row : and_row c.args.t c.wide-x.result (c.args.first + c.wide.result) ≡ edge_row (edge (edges_of c.args.edges.now) c.args.k) c.args.t c.args.first
-  unfolding edge_row
-  row =
-      let read = c.edge_at-edge.ensures in
-      ap₂ (λ x u. and_row c.args.t x (c.args.first + u)) (c.wide-x.ensures ∙ ap (λ e. e.variable) read) (c.wide.ensures ∙ ap (λ e. e.from) read)
-
 pub returns : goal.returns
-unfolding and_row gives_row
+unfolding edge_row and_row gives_row
 returns c =
-    let then-t = c.before.before.before.before in
-    let not-r = then-t.before.before.before in
-    let not-x = not-r.before.before.before in
-    let second = not-x.before.before.before in
-    let clauses = put_then second.put_gives-at.ensures second.put-gives2.ensures in
-    put_as (row second.before.before.before.before.before)
-    (put_then (put_then (put_then (put_then clauses not-x.put-off.ensures) not-r.put-off2.ensures) then-t.put_on.ensures) c.put_zero.ensures)
+    let read = c.edge_at-edge.ensures in
+    let row : and_row c.args.t c.wide-x.result (c.args.first + c.wide.result) ≡ edge_row (edge (edges_of c.args.edges.now) c.args.k) c.args.t c.args.first =
+        ap₂ (λ x u. and_row c.args.t x (c.args.first + u)) (c.wide-x.ensures ∙ ap (λ e. e.variable) read) (c.wide.ensures ∙ ap (λ e. e.from) read) in
+    let clauses = put_then c.put_gives-at.ensures c.put_gives-at-2.ensures in
+    put_as row
+    (put_then (put_then (put_then (put_then clauses c.put_off-at.ensures) c.put_off-at-2.ensures) c.put_on-at.ensures) c.put_zero.ensures)
 
 pub wide-x-requires : goal.wide-x-requires
 unfolding edge_row and_row gives_row
@@ -43,3 +34,27 @@ wide-requires c = search rules
 pub overflow_add-r : goal.overflow_add-r
 unfolding edge_row and_row gives_row
 overflow_add-r c = search rules
+
+pub put_gives-at-requires-clause-room : goal.put_gives-at-requires-clause-room
+unfolding edge_row and_row gives_row
+put_gives-at-requires-clause-room c = omega arith
+
+pub put_gives-at-requires-2-clause-room : goal.put_gives-at-requires-2-clause-room
+unfolding edge_row and_row gives_row
+put_gives-at-requires-2-clause-room c = omega arith
+
+pub put_off-at-requires-clause-room : goal.put_off-at-requires-clause-room
+unfolding edge_row and_row gives_row
+put_off-at-requires-clause-room c = omega arith
+
+pub put_off-at-requires-2-clause-room : goal.put_off-at-requires-2-clause-room
+unfolding edge_row and_row gives_row
+put_off-at-requires-2-clause-room c = omega arith
+
+pub put_on-at-requires-clause-room : goal.put_on-at-requires-clause-room
+unfolding edge_row and_row gives_row
+put_on-at-requires-clause-room c = omega arith
+
+pub put_zero-requires : goal.put_zero-requires
+unfolding edge_row and_row gives_row
+put_zero-requires c = omega arith
