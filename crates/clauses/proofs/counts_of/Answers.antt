@@ -1,5 +1,4 @@
 -- The file's own counts, with those of the blocks.
-use borrow.Author.Rules.{rules}
 use Rattle.clauses.proofs.Whole.{countable, counting}
 use Rattle.clauses.proofs.counts_of.Goals as goal
 

@@ -1,18 +1,9 @@
-use mathlib.Core.Path.{◌≡◌, sym, ap, ◌∙◌}
-use mathlib.Core.Bool.{Bool}
-use mathlib.Core.List.{List}
-use Prim.Native.Nat.{◌+◌, ◌-◌, ◌≤◌, ◌<◌}
-use native.Mathlib.Omega.{arith}
-use native.Mathlib.Numerals.{add-one}
-use borrow.Author.Rules.{rules}
-use borrow.Author.Tests.{not-true, not-false}
-use lib.ListN.{length, drop}
-use Rattle.plan.specs.Meaning.{Atom, no_atom, atom}
+use mathlib.Core.Path.{◌≡◌}
+use Prim.Native.Nat.{◌+◌, ◌-◌, ◌≤◌}
+use lib.ListN.{drop}
 use Rattle.plan.specs.Places.{first_not}
 use Rattle.plan.specs.Tables.{atoms_of}
 use Rattle.plan.specs.Written.{has_block}
-use Rattle.plan.proofs.Places.{first_skip, first_here, first_none}
-use Rattle.clauses.proofs.Tabled.{atom_place}
 use Rattle.clauses.proofs.first_unwritten.Given as goal
 
 abbrev pub invariant-loop-k : goal.invariant-loop-k

@@ -1,10 +1,7 @@
-use Prim.Native.Nat.{◌-◌, ◌≤◌, ◌<◌}
-use native.Mathlib.Omega.{arith}
+use Prim.Native.Nat.{◌-◌, ◌≤◌}
 use lib.ListN.{length, take}
 use Rattle.plan.specs.Tables.{edges_of, atoms_of}
 use Rattle.clauses.specs.Writing.{Added}
-use Rattle.clauses.proofs.Stepping.{limits, few, added_next, added_none, added_all}
-use Rattle.clauses.proofs.Tabled.{atom_place}
 use Rattle.clauses.proofs.with_blocks.Given as goal
 
 abbrev pub invariant-loop-j : goal.invariant-loop-j

@@ -1,7 +1,6 @@
 -- The counts say whether there is room; then the file's own clauses are written, and the blocks behind them.
 use mathlib.Core.Path.{◌≡◌}
 use mathlib.Core.List.{◌++◌}
-use borrow.Author.Rules.{rules}
 use Rattle.plan.specs.Front.{Room}
 use Rattle.plan.proofs.Fronts.{room_first, room_rest}
 use Rattle.clauses.proofs.Whole.{behind, low, room, written_out}

@@ -1,11 +1,7 @@
 -- The clauses of the edges, one behind the other.
-use Prim.Native.Nat.{◌+◌, ◌-◌}
 use native.Mathlib.Omega.{arith}
-use lib.ListN.{length}
-use Rattle.plan.specs.Meaning.{edge}
-use Rattle.plan.specs.Tables.{edges_of}
-use Rattle.clauses.specs.Rows.{edge_row, edges_row}
-use Rattle.plan.proofs.Filling.{Filling, filling_start, filling_room, filling_turn, filling_end}
+use Rattle.clauses.specs.Rows.{edges_row}
+use Rattle.plan.proofs.Filling.{filling_start, filling_room, filling_turn, filling_end}
 use Rattle.clauses.proofs.block.put_edges.Goals as goal
 
 pub loop-k-init : goal.loop-k-init
@@ -15,9 +11,9 @@ loop-k-init c = filling_start c.requires.room
 pub put_edge-end-requires : goal.put_edge-end-requires
 unfolding edges_row
 put_edge-end-requires c = record {
-      room = filling_room c.loop-k.invariant (omega arith);
-      k_in_bounds = omega arith;
-    }
+  room = filling_room c.loop-k.invariant (omega arith);
+  k_in_bounds = omega arith;
+}
 
 pub loop-k-preserved : goal.loop-k-preserved
 unfolding edges_row

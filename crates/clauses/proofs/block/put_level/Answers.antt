@@ -1,5 +1,4 @@
 -- The edges, and the nodes behind them.
-use native.Mathlib.Omega.{arith}
 use Rattle.clauses.specs.Rows.{level_row}
 use Rattle.plan.proofs.Fronts.{room_first, room_rest, put_then}
 use Rattle.clauses.proofs.block.put_level.Goals as goal
@@ -7,9 +6,9 @@ use Rattle.clauses.proofs.block.put_level.Goals as goal
 pub put_edges-at-requires : goal.put_edges-at-requires
 unfolding level_row
 put_edges-at-requires c = record {
-      room = room_first _ _ c.requires.room;
-      low = c.requires.low;
-    }
+  room = room_first _ _ c.requires.room;
+  low = c.requires.low;
+}
 
 pub put_nodes-requires : goal.put_nodes-requires
 unfolding level_row

@@ -1,8 +1,7 @@
 use Prim.Native.Nat.{◌+◌, ◌-◌}
-use native.Mathlib.Omega.{arith}
 use Rattle.plan.specs.Tables.{edges_of}
-use Rattle.clauses.specs.Rows.{node_row, nodes_row}
-use Rattle.plan.proofs.Filling.{Filling, filling_start, filling_room, filling_turn, filling_end}
+use Rattle.clauses.specs.Rows.{node_row}
+use Rattle.plan.proofs.Filling.{Filling}
 use Rattle.clauses.proofs.block.put_nodes.Given as goal
 
 abbrev pub invariant-loop-w : goal.invariant-loop-w

@@ -1,7 +1,6 @@
 use Prim.Native.Nat.{◌+◌, ◌-◌}
-use native.Mathlib.Omega.{arith}
-use Rattle.clauses.specs.Rows.{alone_row, start_row}
-use Rattle.plan.proofs.Filling.{Filling, filling_start, filling_room, filling_turn, filling_end}
+use Rattle.clauses.specs.Rows.{alone_row}
+use Rattle.plan.proofs.Filling.{Filling}
 use Rattle.clauses.proofs.block.put_start.Given as goal
 
 abbrev pub invariant-loop-w : goal.invariant-loop-w

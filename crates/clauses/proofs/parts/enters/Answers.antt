@@ -1,6 +1,5 @@
 -- The test is of the edge in the table.
 use mathlib.Core.Path.{◌∙◌, ap}
-use borrow.Author.Rules.{rules}
 use lib.Dec.{eqb}
 use Rattle.clauses.proofs.Tabled.{edge_place}
 use Rattle.clauses.proofs.parts.enters.Goals as goal

@@ -2,7 +2,6 @@
 use mathlib.Core.Path.{◌≡◌, ◌∙◌, ap, ap₂}
 use Prim.Native.Nat.{◌+◌}
 use native.Mathlib.Omega.{arith}
-use borrow.Author.Rules.{rules}
 use Rattle.plan.specs.Meaning.{edge}
 use Rattle.plan.specs.Tables.{edges_of}
 use Rattle.clauses.specs.Rows.{gives_row, and_row, edge_row}
@@ -18,22 +17,10 @@ unfolding edge_row and_row gives_row
 returns c =
     let read = c.edge_at-edge.ensures in
     let row : and_row c.args.t c.wide-x.result (c.args.first + c.wide.result) ≡ edge_row (edge (edges_of c.args.edges.now) c.args.k) c.args.t c.args.first =
-        ap₂ (λ x u. and_row c.args.t x (c.args.first + u)) (c.wide-x.ensures ∙ ap (λ e. e.variable) read) (c.wide.ensures ∙ ap (λ e. e.from) read) in
+    ap₂ (λ x u. and_row c.args.t x (c.args.first + u)) (c.wide-x.ensures ∙ ap (λ e. e.variable) read) (c.wide.ensures ∙ ap (λ e. e.from) read) in
     let clauses = put_then c.put_gives-at.ensures c.put_gives-at-2.ensures in
     put_as row
     (put_then (put_then (put_then (put_then clauses c.put_off-at.ensures) c.put_off-at-2.ensures) c.put_on-at.ensures) c.put_zero.ensures)
-
-pub wide-x-requires : goal.wide-x-requires
-unfolding edge_row and_row gives_row
-wide-x-requires c = search rules
-
-pub wide-requires : goal.wide-requires
-unfolding edge_row and_row gives_row
-wide-requires c = search rules
-
-pub overflow_add-r : goal.overflow_add-r
-unfolding edge_row and_row gives_row
-overflow_add-r c = search rules
 
 pub put_gives-at-requires-clause-room : goal.put_gives-at-requires-clause-room
 unfolding edge_row and_row gives_row

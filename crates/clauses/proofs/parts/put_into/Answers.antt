@@ -1,7 +1,6 @@
 -- The clause, or nothing, by the test.
 use mathlib.Core.Path.{sym, ◌∙◌}
 use native.Mathlib.Omega.{arith}
-use borrow.Author.Rules.{rules}
 use Rattle.clauses.specs.Rows.{into_row}
 use Rattle.plan.proofs.Fronts.{put_none}
 use Rattle.clauses.proofs.parts.put_into.Goals as goal

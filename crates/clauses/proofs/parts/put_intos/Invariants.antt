@@ -1,10 +1,9 @@
 use Prim.Native.Nat.{◌+◌, ◌-◌}
-use native.Mathlib.Omega.{arith}
 use lib.ListN.{length}
 use Rattle.plan.specs.Meaning.{edge}
 use Rattle.plan.specs.Tables.{edges_of}
-use Rattle.clauses.specs.Rows.{into_row, intos_row}
-use Rattle.plan.proofs.Filling.{Filling, filling_start, filling_room, filling_turn, filling_end}
+use Rattle.clauses.specs.Rows.{into_row}
+use Rattle.plan.proofs.Filling.{Filling}
 use Rattle.clauses.proofs.parts.put_intos.Given as goal
 
 abbrev pub invariant-loop-k : goal.invariant-loop-k

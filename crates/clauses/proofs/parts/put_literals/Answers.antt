@@ -1,11 +1,7 @@
 -- The literals of the edges, one behind the other.
-use Prim.Native.Nat.{◌+◌, ◌-◌}
 use native.Mathlib.Omega.{arith}
-use lib.ListN.{length}
-use Rattle.plan.specs.Meaning.{edge}
-use Rattle.plan.specs.Tables.{edges_of}
-use Rattle.clauses.specs.Rows.{literal_row, literals_row}
-use Rattle.plan.proofs.Filling.{Filling, filling_start, filling_room, filling_turn, filling_end}
+use Rattle.clauses.specs.Rows.{literals_row}
+use Rattle.plan.proofs.Filling.{filling_start, filling_room, filling_turn, filling_end}
 use Rattle.clauses.proofs.parts.put_literals.Goals as goal
 
 pub loop-k-init : goal.loop-k-init
@@ -15,9 +11,9 @@ loop-k-init c = filling_start c.requires.room
 pub put_literal-end-requires : goal.put_literal-end-requires
 unfolding literals_row
 put_literal-end-requires c = record {
-      room = filling_room c.loop-k.invariant (omega arith);
-      k_in_bounds = omega arith;
-    }
+  room = filling_room c.loop-k.invariant (omega arith);
+  k_in_bounds = omega arith;
+}
 
 pub loop-k-preserved : goal.loop-k-preserved
 unfolding literals_row

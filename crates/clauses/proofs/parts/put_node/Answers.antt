@@ -1,10 +1,7 @@
 -- The clause of the node, that it stays reached, and the clauses of the edges into it.
-use mathlib.Core.Path.{◌≡◌}
-use Prim.Native.Nat.{◌+◌}
 use native.Mathlib.Omega.{arith}
-use lib.ListN.{length}
 use Rattle.plan.specs.Tables.{edges_of}
-use Rattle.clauses.specs.Rows.{gives_row, literals_row, intos_row, node_row}
+use Rattle.clauses.specs.Rows.{gives_row, node_row}
 use Rattle.plan.proofs.Fronts.{put_then}
 use Rattle.clauses.proofs.Rows.{node_size}
 use Rattle.clauses.proofs.parts.put_node.Goals as goal

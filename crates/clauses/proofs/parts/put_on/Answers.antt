@@ -1,6 +1,5 @@
 -- One store, of the number itself.
 use native.Mathlib.Omega.{arith}
-use borrow.Author.Rules.{rules}
 use mathlib.Core.List.{[], ◌∷◌}
 use mathlib.Core.Path.{ap}
 use mir.Syntax.{w32}

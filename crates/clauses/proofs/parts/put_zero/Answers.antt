@@ -1,6 +1,5 @@
 -- One store, of 0.
 use native.Mathlib.Omega.{arith}
-use borrow.Author.Rules.{rules}
 use lib.IntN.{pos}
 use Rattle.plan.proofs.Fronts.{put_one}
 use Rattle.clauses.proofs.parts.put_zero.Goals as goal
