@@ -1,8 +1,6 @@
 -- `reason::leads_nearer`: each test is one part of what it is to lead nearer.
 use mathlib.Core.Path.{◌≡◌, sym, ap, ◌∙◌}
 use Prim.Native.Nat.{◌-◌}
-use borrow.Author.Rules.{rules}
-use borrow.Author.Tests.{not-true, not-false}
 use native.Mathlib.Omega.{arith}
 use lib.Dec.{eqb→eq, eqb_refl}
 use Rattle.plan.specs.Meaning.{graph_of, true_in}
@@ -17,39 +15,30 @@ pub returns-then-wide-node : goal.returns-then-wide-node
 returns-then-wide-node c = λ es x. never (λ q. c.if-wide-node.true (c.wide.ensures ∙ q.ends))
 
 -- the edge ends at the node, and whether the graph has it
-module _ (c : goal.Then-not-is_present) where
-  present_is : c.is_present.result ≡ holding c.args.assignment.now (atom_of c.args.atom) (edge_of c.args.edge)
-  present_is = c.is_present.ensures ∙ ap (λ s. graph_of s (true_in c.args.assignment.now) (edge_of c.args.edge)) (c.settling_side.ensures c.args.atom.kind)
-
 pub returns-then-not-is_present : goal.returns-then-not-is_present
-returns-then-not-is_present c = λ es x. never (λ q. not_so (present_is c) c.if-not-is_present.true q.present)
+returns-then-not-is_present c =
+    let present_is = c.is_present.ensures ∙ ap (λ s. graph_of s (true_in c.args.assignment.now) (edge_of c.args.edge)) (c.settling_side.ensures c.args.atom.kind) in
+    λ es x. never (λ q. not_so present_is c.if-not-is_present.true q.present)
 
 -- it has, and whether the edge's start is reached
-module _ (c : goal.Then-not-is_reached) where
-  abbrev first : goal.Start
-  first = c.before.before.before.before.before.before.before
-
-  from_is : c.is_reached.result ≡ reached_in first.args.distances.now first.args.edge.from
-  from_is = c.is_reached.ensures ∙ ap (reached_in first.args.distances.now) c.wide-from.ensures
-
 pub returns-then-not-is_reached : goal.returns-then-not-is_reached
-returns-then-not-is_reached c = λ es x. never (λ q. not_so (from_is c) c.if-not-is_reached.true (distance_reached x _ _ q.near))
+returns-then-not-is_reached c =
+    let from_is = c.is_reached.ensures ∙ ap (reached_in c.args.distances.now) c.wide-from.ensures in
+    λ es x. never (λ q. not_so from_is c.if-not-is_reached.true (distance_reached x _ _ q.near))
 
 -- it is, and how far away
-module _ (c : goal.Then-count-near) where
-  near_is : c.distance-near.result ≡ distance_in (c.before.before.before.before.before.before.before).args.distances.now (c.before.before.before.before.before.before.before).args.edge.from
-  near_is = c.distance-near.ensures ∙ ap (distance_in (c.before.before.before.before.before.before.before).args.distances.now) c.wide-from.ensures
-
 pub returns-then-count-near : goal.returns-then-count-near
-returns-then-count-near c = λ es x. never (λ q. omega (arith, c.if-count-near.true, near_is c, distance_is x _ _ q.near, q.sum))
+returns-then-count-near c =
+    let near_is = c.distance-near.ensures ∙ ap (distance_in c.args.distances.now) c.wide-from.ensures in
+    λ es x. never (λ q. omega (arith, c.if-count-near.true, near_is, distance_is x _ _ q.near, q.sum))
 
 pub returns : goal.returns
 returns c =
-    let present_is : c.is_present.result ≡ holding c.args.assignment.now (atom_of c.args.atom) (edge_of c.args.edge) = c.is_present.ensures ∙ ap (λ s. graph_of s (true_in c.args.assignment.now) (edge_of c.args.edge)) (c.settling_side.ensures c.args.atom.kind) in
-    let from_is : c.is_reached.result ≡ reached_in c.args.distances.now c.args.edge.from = c.is_reached.ensures ∙ ap (reached_in c.args.distances.now) c.wide-from.ensures in
-    let near_is : c.distance-near.result ≡ distance_in (c.before.before.before.before.before.before.before).args.distances.now (c.before.before.before.before.before.before.before).args.edge.from = c.distance-near.ensures ∙ ap (distance_in (c.before.before.before.before.before.before.before).args.distances.now) c.wide-from.ensures in
+    let present_is = c.is_present.ensures ∙ ap (λ s. graph_of s (true_in c.args.assignment.now) (edge_of c.args.edge)) (c.settling_side.ensures c.args.atom.kind) in
+    let from_is = c.is_reached.ensures ∙ ap (reached_in c.args.distances.now) c.wide-from.ensures in
+    let near_is = c.distance-near.ensures ∙ ap (distance_in c.args.distances.now) c.wide-from.ensures in
     λ es x.
-    let t = (c.before.before.before.before.before.before.before).args in (
+    let t = c.args in (
       (λ e. record {
         present = so present_is c.if-not-is_present.false;
         ends = sym c.wide.ensures ∙ c.if-wide-node.false;

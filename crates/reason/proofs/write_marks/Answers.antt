@@ -29,7 +29,7 @@ pub loop-v-preserved : goal.loop-v-preserved
 loop-v-preserved c =
     let t = c.args in (
       omega arith,
-      c.write_mark-end.auto.1.1.1.1.0 ∙ c.loop-v.invariant.1,
+      c.write_mark-end.auto.out ∙ c.loop-v.invariant.1,
       subst (λ p. Appends t.at p t.out.now c.write_mark-end.new.out c.write_mark-end.result) (premises_next t.sign t.marks.now c.loop-v.v)
           (appends_then c.loop-v.invariant.2 c.write_mark-end.ensures),
     )
