@@ -5,7 +5,7 @@ use native.Mathlib.Omega.{arith}
 use Prim.Native.Nat.{ℕ}
 use lib.IntN.{ℤ}
 use Rattle.plan.specs.Meaning.{Edge, Atom}
-use Rattle.plan.specs.Tables.{edges_of, edge_of, atom_of}
+use Rattle.plan.specs.Tables.{edges_of, atom_of}
 use Rattle.reason.specs.Marks.{Fits, EdgeFits, FirstNearer}
 use Rattle.reason.proofs.Paths.{edge_fits, first_in, cost_low, start_away, path_none, path_more}
 use Rattle.reason.proofs.+mark_path.Goals as goal

@@ -1,5 +1,4 @@
 -- `reason::cost_for`: what the kind counts says what the edge costs.
-use borrow.Author.Rules.{rules}
 use Rattle.reason.proofs.cost_for.Goals as goal
 
 pub returns : goal.returns

@@ -1,9 +1,5 @@
 -- `reason::crosses`: what the tests say of the edge's variable and of the distances of its ends is what it is to lead across.
-use mathlib.Core.Path.{◌≡◌, refl, ap, ◌∙◌}
-use mathlib.Core.Logic.{◌↔◌}
-use lib.Dec.{T}
-use Rattle.plan.specs.Meaning.{Edge, off, true_in}
-use Rattle.plan.specs.Reason.{LeavesAt}
+use mathlib.Core.Path.{refl, ap, ◌∙◌}
 use Rattle.plan.specs.Tables.{edge_of}
 use Rattle.walk.specs.Walking.{reached_in, distance_in}
 use Rattle.walk.proofs.Truths.{so, not_so}

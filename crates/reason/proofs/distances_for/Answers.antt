@@ -1,5 +1,4 @@
 -- `reason::distances_for`: the distances are those of the graph that settles the verdict, by what the kind counts.
-use borrow.Author.Rules.{rules}
 use native.Mathlib.Omega.{arith}
 use Rattle.reason.proofs.distances_for.Goals as goal
 

@@ -1,5 +1,4 @@
 -- `reason::ends_beyond`: each kind's test is what the definition asks.
-use borrow.Author.Rules.{rules}
 use Rattle.reason.proofs.ends_beyond.Goals as goal
 
 pub returns-in-Reaches : goal.returns-in-Reaches

@@ -1,6 +1,5 @@
 -- `reason::is_beyond`: the difference says what the sum would.
 use Prim.Native.Nat.{◌-◌}
-use borrow.Author.Rules.{rules}
 use native.Mathlib.Omega.{arith}
 use lib.Dec.{ltb→lt, lt→ltb}
 use Rattle.reason.proofs.is_beyond.Goals as goal

@@ -4,10 +4,9 @@ use Prim.Native.Nat.{◌-◌}
 use native.Mathlib.Omega.{arith}
 use lib.Dec.{eqb→eq, eqb_refl}
 use Rattle.plan.specs.Meaning.{graph_of, true_in}
-use Rattle.plan.specs.Tables.{edge_of, atom_of}
+use Rattle.plan.specs.Tables.{edge_of}
 use Rattle.walk.specs.Walking.{reached_in, distance_in}
 use Rattle.walk.proofs.Truths.{so, not_so, reached_distance, distance_reached, distance_is}
-use Rattle.reason.specs.Marks.{holding}
 use Rattle.reason.proofs.Paths.{never}
 use Rattle.reason.proofs.leads_nearer.Goals as goal
 

@@ -1,5 +1,4 @@
 -- `reason::leaves_at`: each kind's test is what the definition asks of the distance.
-use borrow.Author.Rules.{rules}
 use lib.Dec.{ltb→lt, lt→ltb}
 use Rattle.reason.proofs.leaves_at.Goals as goal
 

@@ -1,5 +1,4 @@
 -- `reason::mark`: the place that is written is the variable's.
-use borrow.Author.Rules.{rules}
 use native.Mathlib.Omega.{arith}
 use Rattle.reason.proofs.Paths.{marks_one}
 use Rattle.reason.proofs.mark.Goals as goal

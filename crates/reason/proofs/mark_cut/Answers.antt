@@ -1,16 +1,10 @@
 -- `reason::mark_cut`: after k edges the marks are those of the cut below k. The measure is the edges that are left.
-use mathlib.Core.Path.{◌≡◌, refl, ◌∙◌}
-use Prim.Native.Nat.{ℕ, suc, ◌-◌, ◌≤◌}
-use mathlib.Core.Logic.{◌↔◌}
-use mathlib.Core.Bool.{false}
+use mathlib.Core.Path.{refl, ◌∙◌}
 use native.Mathlib.Numerals.{add-one}
 use native.Mathlib.Omega.{arith}
-use lib.ListN.{length, get_or}
-use lib.Dec.{T}
 use Rattle.plan.specs.Tables.{edges_of, atom_of}
 use Rattle.plan.proofs.Tables.{edges_most}
-use Rattle.reason.specs.Answers.{Over, with_edges}
-use Rattle.reason.specs.Marks.{CutBelow}
+use Rattle.reason.specs.Answers.{with_edges}
 use Rattle.reason.proofs.Cuts.{bare, blank, cut_more, cut_all}
 use Rattle.reason.proofs.mark_cut.Goals as goal
 
@@ -19,10 +13,10 @@ loop-k-init c = (omega arith, refl, λ φ i. ((λ t. absurd (blank 512 i t)), (�
 
 pub mark_edge-requires : goal.mark_edge-requires
 mark_edge-requires c = record {
-      told = c.requires;
-      k_in_bounds = omega arith;
-      marks_len = c.loop-k.invariant.1;
-    }
+  told = c.requires;
+  k_in_bounds = omega arith;
+  marks_len = c.loop-k.invariant.1;
+}
 
 pub loop-k-preserved : goal.loop-k-preserved
 loop-k-preserved c =

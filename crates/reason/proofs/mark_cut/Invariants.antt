@@ -1,16 +1,12 @@
-use mathlib.Core.Path.{◌≡◌, refl, ◌∙◌}
+use mathlib.Core.Path.{◌≡◌}
 use Prim.Native.Nat.{ℕ, suc, ◌-◌, ◌≤◌}
 use mathlib.Core.Logic.{◌↔◌}
 use mathlib.Core.Bool.{false}
-use native.Mathlib.Numerals.{add-one}
-use native.Mathlib.Omega.{arith}
 use lib.ListN.{length, get_or}
 use lib.Dec.{T}
 use Rattle.plan.specs.Tables.{edges_of, atom_of}
-use Rattle.plan.proofs.Tables.{edges_most}
-use Rattle.reason.specs.Answers.{Over, with_edges}
+use Rattle.reason.specs.Answers.{Over}
 use Rattle.reason.specs.Marks.{CutBelow}
-use Rattle.reason.proofs.Cuts.{bare, blank, cut_more, cut_all}
 use Rattle.reason.proofs.mark_cut.Given as goal
 
 abbrev pub invariant-loop-k : goal.invariant-loop-k

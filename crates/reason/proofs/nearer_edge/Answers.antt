@@ -1,34 +1,32 @@
 -- `reason::nearer_edge`: no edge passed leads nearer, so the first that does is the smallest-numbered. The measure is the edges that are left.
-use mathlib.Core.Path.{refl}
+use mathlib.Core.Path.{◌≡◌, refl}
 use mathlib.Core.List.{List}
-use Prim.Native.Nat.{ℕ, ◌-◌, ◌<◌, ◌≤◌}
+use Prim.Native.Nat.{ℕ, ◌<◌}
 use native.Mathlib.Omega.{arith}
 use borrow.Author.Count.{below_more}
+use lib.IntN.{ℤ}
 use lib.ListN.{length}
-use Rattle.plan.specs.Meaning.{Edge, cost_of}
-use Rattle.plan.specs.Reason.{Nearer}
-use Rattle.plan.specs.Tables.{edges_of, edge_of, atom_of}
+use Rattle.plan.specs.Meaning.{Edge, edge}
+use Rattle.plan.specs.Tables.{edges_of, atom_of}
 use Rattle.plan.proofs.Tables.{edges_most, within_listed}
 use Rattle.plan.proofs.Lists.{mem_at}
 use Rattle.walk.proofs.Truths.{so, not_so}
-use Rattle.reason.specs.Marks.{EdgeFits, holding}
+use Rattle.reason.specs.Marks.{Fits, EdgeFits}
 use Rattle.reason.proofs.Paths.{edge_fits, nearer_of, of_nearer, some_nearer}
 use Rattle.reason.proofs.nearer_edge.Goals as goal
 
 -- the edge that is read
-module _ (c : goal.After-edge_at-edge) where
-  abbrev es : List Edge
-  es = edges_of c.args.edges.now
+fits : (table : List ℕ) (a : List ℤ) (n : ℕ) {e : Edge} → Fits (edges_of table) a → n < length (edges_of table) → e ≡ edge (edges_of table) n → EdgeFits a e
+fits table a n {e} f l is = edge_fits {e = e} f (rw is (mem_at (edges_of table) _ n l))
 
-  listed : c.loop-number.number < length es
-  listed = within_listed c.args.edges.now c.loop-number.number (omega arith)
-
-  fits : EdgeFits c.args.assignment.now (edge_of c.edge_at-edge.result)
-  fits = edge_fits {e = edge_of c.edge_at-edge.result} c.requires.told.fits (rw c.edge_at-edge.ensures (mem_at es _ c.loop-number.number listed))
+pub leads_nearer-requires : goal.leads_nearer-requires
+leads_nearer-requires c =
+    let listed = within_listed c.args.edges.now c.loop-number.number (omega arith) in
+    fits c.args.edges.now c.args.assignment.now c.loop-number.number c.requires.told.fits listed c.edge_at-edge.ensures
 
 pub returns-then-leads_nearer : goal.returns-then-leads_nearer
 returns-then-leads_nearer c =
-    let listed : c.loop-number.number < length (edges_of c.args.edges.now) = within_listed c.args.edges.now c.loop-number.number (omega arith) in
+    let listed = within_listed c.args.edges.now c.loop-number.number (omega arith) in
     let t = c.args in
     let q = (c.leads_nearer.ensures (edges_of c.args.edges.now) c.requires.told.table).0 (so {r = c.leads_nearer.result} refl c.if-leads_nearer.true) in (
       c.loop-number.number,
@@ -51,6 +49,3 @@ returns c =
 
 pub loop-number-init : goal.loop-number-init
 loop-number-init c = (omega arith, λ i l. omega arith)
-
-pub leads_nearer-requires : goal.leads_nearer-requires
-leads_nearer-requires c = fits c

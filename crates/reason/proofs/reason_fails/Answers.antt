@@ -1,5 +1,4 @@
 -- `reason::reason_fails`: the clause of the marked cut is the reason.
-use borrow.Author.Rules.{rules}
 use lib.ListN.{length}
 use Rattle.plan.specs.Tables.{edges_of, atom_of}
 use Rattle.reason.specs.Answers.{with_edges}

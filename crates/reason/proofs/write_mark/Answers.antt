@@ -2,7 +2,6 @@
 use mathlib.Core.Path.{◌∙◌}
 use Prim.Native.Nat.{◌+◌, ◌<◌}
 use borrow.Author.Rules.{rules}
-use borrow.Author.Tests.{not-true, not-false}
 use lib.ListN.{length, set}
 use mathlib.Core.List.{map}
 use mir.Syntax.{w16}

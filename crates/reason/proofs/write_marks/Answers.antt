@@ -1,9 +1,9 @@
 -- `reason::write_marks`: after v variables the literals of those that are marked are appended. The measure is the variables that are left.
 use mathlib.Core.Path.{◌≡◌, refl, sym, subst, ◌∙◌}
 use mathlib.Core.List.{map}
-use Prim.Native.Nat.{suc, ◌+◌, ◌-◌, ◌≤◌}
+use Prim.Native.Nat.{suc, ◌+◌}
 use native.Mathlib.Omega.{arith}
-use lib.ListN.{length, length-map}
+use lib.ListN.{length-map}
 use Rattle.plan.specs.Meaning.{literal_of}
 use Rattle.reason.specs.Marks.{premises, Appends}
 use Rattle.reason.proofs.Listing.{premises_zero, premises_count, premises_fewer, premises_next, appends_none, appends_then}

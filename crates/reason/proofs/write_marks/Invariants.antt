@@ -1,11 +1,9 @@
-use mathlib.Core.Path.{◌≡◌, refl, sym, subst, ◌∙◌}
+use mathlib.Core.Path.{◌≡◌}
 use mathlib.Core.List.{map}
-use Prim.Native.Nat.{suc, ◌+◌, ◌-◌, ◌≤◌}
-use native.Mathlib.Omega.{arith}
-use lib.ListN.{length, length-map}
+use Prim.Native.Nat.{◌-◌, ◌≤◌}
+use lib.ListN.{length}
 use Rattle.plan.specs.Meaning.{literal_of}
 use Rattle.reason.specs.Marks.{premises, Appends}
-use Rattle.reason.proofs.Listing.{premises_zero, premises_count, premises_fewer, premises_next, appends_none, appends_then}
 use Rattle.reason.proofs.write_marks.Given as goal
 
 abbrev pub invariant-loop-v : goal.invariant-loop-v
