@@ -1,10 +1,16 @@
-// What the programs write: bytes, words and numbers, gathered in a buffer that the program lends.
+// What the programs read, and what they write: bytes, words and numbers, gathered in a buffer that the program lends.
 //
-// A function here takes the buffer and the place of the next byte and hands back the place behind what it appended. A full
-// buffer is written to standard output, and filling goes on at its front; `flush` writes the rest.
+// A function here that writes takes the buffer and the place of the next byte and hands back the place behind what it appended. A full
+// buffer is written to standard output, and filling goes on at its front; `flush` writes the rest. So each takes the handle that prints,
+// and hands back the error of a write that failed.
 #![tactic(auto)]
 
+ghost use Rattle.std.specs.Io.{ReadsAtMost};
+
+use itoa::Buffer;
 use plan::{Plan, Refusal, magnitude};
+use std::io;
+use std::io::{ErrorKind, Read};
 
 // The length of the buffer.
 pub const SIZE: usize = 4096;
@@ -12,73 +18,98 @@ pub const SIZE: usize = 4096;
 // How much a program reads: one byte more than a plan file may have, so that a longer input is refused and not cut.
 pub const INPUT: usize = Plan::MAX_BYTES + 1;
 
-// Writes what stands before `at` to standard output.
-pub fn flush(out: &[u8; SIZE], at: usize) {
-    write_front(out, at);
+// Reads until the buffer is full or the input ends, and hands back how many bytes stand at the front of the buffer then. A read that a
+// signal interrupts is made again; nothing says that this ends, so the turns are counted, from a number that no run uses up.
+pub fn read_full(input: &mut impl Read, buffer: &mut [u8]) -> io::Result<usize>
+    ensures { ReadsAtMost result buffer.new }
+{
+    let mut done = 0;
+    for _ in 0..u64::MAX {
+        if done == buffer.len() {
+            break;
+        }
+        match input.read(&mut buffer[done..]) {
+            Ok(0) => break,
+            Ok(count) => done += count,
+            Err(why) if why.kind() == ErrorKind::Interrupted => {}
+            Err(why) => return Err(why),
+        }
+    }
+    Ok(done)
 }
 
-fn write_front(out: &[u8], at: usize) {
+// Writes what stands before `at` to standard output.
+pub fn flush(rt: &impl Print, out: &[u8; SIZE], at: usize) -> io::Result<()> {
+    write_front(rt, out, at)
+}
+
+fn write_front(rt: &impl Print, out: &[u8], at: usize) -> io::Result<()> {
     if at < out.len() {
-        io::write_all(libc::STDOUT_FILENO, &out[..at]);
+        rt.write_all(&out[..at])
     } else {
-        io::write_all(libc::STDOUT_FILENO, out);
+        rt.write_all(out)
     }
 }
 
-pub fn byte(out: &mut [u8; SIZE], at: usize, value: u8) -> usize {
+pub fn byte(rt: &impl Print, out: &mut [u8; SIZE], at: usize, value: u8) -> io::Result<usize> {
     if at < SIZE {
         out[at] = value;
-        return at + 1;
+        return Ok(at + 1);
     }
-    flush(out, at);
+    flush(rt, out, at)?;
     out[0] = value;
-    1
+    Ok(1)
 }
 
-pub fn word(out: &mut [u8; SIZE], at: usize, value: &[u8]) -> usize {
+pub fn word(rt: &impl Print, out: &mut [u8; SIZE], at: usize, value: &[u8]) -> io::Result<usize> {
     let mut next = at;
     for i in 0..value.len() {
-        next = byte(out, next, value[i]);
+        next = byte(rt, out, next, value[i])?;
     }
-    next
+    Ok(next)
 }
 
-pub fn number(out: &mut [u8; SIZE], at: usize, value: u64) -> usize {
-    let mut digits = [0u8; 20];
-    let count = io::decimal(value, &mut digits);
-    word(out, at, &digits[..count])
+pub fn number(rt: &impl Print, out: &mut [u8; SIZE], at: usize, value: u64) -> io::Result<usize> {
+    let mut digits = Buffer::new();
+    word(rt, out, at, digits.format(value).as_bytes())
 }
 
-pub fn signed(out: &mut [u8; SIZE], at: usize, value: i32) -> usize {
+pub fn signed(rt: &impl Print, out: &mut [u8; SIZE], at: usize, value: i32) -> io::Result<usize> {
     let mut next = at;
     if value < 0 {
-        next = byte(out, at, b'-');
+        next = byte(rt, out, at, b'-')?;
     }
-    number(out, next, magnitude(value) as u64)
+    number(rt, out, next, magnitude(value) as u64)
 }
 
 // A blank and a number.
-pub fn field(out: &mut [u8; SIZE], at: usize, value: u64) -> usize {
-    let next = byte(out, at, b' ');
-    number(out, next, value)
+pub fn field(rt: &impl Print, out: &mut [u8; SIZE], at: usize, value: u64) -> io::Result<usize> {
+    let next = byte(rt, out, at, b' ')?;
+    number(rt, out, next, value)
 }
 
 // A refusal's line without its end: `name`, the number and the value.
-pub fn refusal(out: &mut [u8; SIZE], at: usize, name: &[u8], why: Refusal) -> usize {
-    let mut next = word(out, at, name);
-    next = field(out, next, plan::number_of(why) as u64);
-    field(out, next, plan::returned_by(why) as u64)
+pub fn refusal(
+    rt: &impl Print,
+    out: &mut [u8; SIZE],
+    at: usize,
+    name: &[u8],
+    why: Refusal,
+) -> io::Result<usize> {
+    let mut next = word(rt, out, at, name)?;
+    next = field(rt, out, next, plan::number_of(why) as u64)?;
+    field(rt, out, next, plan::returned_by(why) as u64)
 }
 
 // The line `r NUMBER VALUE`, at the front of the buffer.
-pub fn refusal_line(out: &mut [u8; SIZE], why: Refusal) -> usize {
-    let next = refusal(out, 0, b"r", why);
-    byte(out, next, b'\n')
+pub fn refusal_line(rt: &impl Print, out: &mut [u8; SIZE], why: Refusal) -> io::Result<usize> {
+    let next = refusal(rt, out, 0, b"r", why)?;
+    byte(rt, out, next, b'\n')
 }
 
 // The line `r NUMBER VALUE` on standard output.
-pub fn refuse(why: Refusal) {
+pub fn refuse(rt: &impl Print, why: Refusal) -> io::Result<()> {
     let mut out = [0u8; SIZE];
-    let end = refusal_line(&mut out, why);
-    flush(&out, end);
+    let end = refusal_line(rt, &mut out, why)?;
+    flush(rt, &out, end)
 }
