@@ -10,17 +10,19 @@ ghost use Rattle.plan.specs.Tables.{Lent};
 
 use plan::{Atom, Clause, Edge, Plan};
 use reader::ReadAnswer;
+use std::io;
 use text::{INPUT, SIZE};
 
-fn main() {
+fn main(rt: HostRuntime) -> io::Result<()> {
+    let mut input = rt.stdin();
     let mut head = [0u8; 5];
-    io::read_full(libc::STDIN_FILENO, &mut head);
+    text::read_full(&mut input, &mut head)?;
     let mut file = [0u8; INPUT];
-    let size = io::read_full(libc::STDIN_FILENO, &mut file);
+    let size = text::read_full(&mut input, &mut file)?;
     let repetitions = four(head[1], head[2], head[3], head[4]);
     let mut out = [0u8; SIZE];
-    let end = report(&mut out, head[0], repetitions, &file[..size]);
-    text::flush(&out, end);
+    let end = report(&rt, &mut out, head[0], repetitions, &file[..size])?;
+    text::flush(&rt, &out, end)
 }
 
 // The number of four bytes, the high one first.
@@ -28,13 +30,19 @@ fn four(first: u8, second: u8, third: u8, fourth: u8) -> u32 {
     first as u32 * 16777216 + second as u32 * 65536 + third as u32 * 256 + fourth as u32
 }
 
-fn report(out: &mut [u8; SIZE], operation: u8, repetitions: u32, file: &[u8]) -> usize {
+fn report(
+    rt: &impl Print,
+    out: &mut [u8; SIZE],
+    operation: u8,
+    repetitions: u32,
+    file: &[u8],
+) -> io::Result<usize> {
     let mut edges = [0u16; Edge::TABLE];
     let mut atoms = [0u16; Atom::TABLE];
     let mut clauses = [0i16; Clause::TABLE];
     let reading = reader::read_into(file, &mut edges, &mut atoms, &mut clauses);
     match reading {
-        ReadAnswer::Refused(why) => text::refusal_line(out, why),
+        ReadAnswer::Refused(why) => text::refusal_line(rt, out, why),
         ReadAnswer::Accepted(plan) => {
             let sum = done(
                 operation,
@@ -45,14 +53,14 @@ fn report(out: &mut [u8; SIZE], operation: u8, repetitions: u32, file: &[u8]) ->
                 reader::used_atoms(plan, &atoms),
                 reader::used_clauses(plan, &clauses),
             );
-            line(out, sum)
+            line(rt, out, sum)
         }
     }
 }
 
-fn line(out: &mut [u8; SIZE], sum: u64) -> usize {
-    let next = text::number(out, 0, sum);
-    text::byte(out, next, b'\n')
+fn line(rt: &impl Print, out: &mut [u8; SIZE], sum: u64) -> io::Result<usize> {
+    let next = text::number(rt, out, 0, sum)?;
+    text::byte(rt, out, next, b'\n')
 }
 
 fn done(

@@ -7,8 +7,9 @@
 mod answers;
 mod numbers;
 
-use libc::STDIN_FILENO;
 use numbers::{four, signed, two};
+use std::io;
+use std::io::Read;
 
 const MAX_FILE: usize = 20480;
 
@@ -29,60 +30,89 @@ struct Request {
 }
 
 // Nothing says that the input ends, so the turns are counted, from a number that no run uses up.
-fn main() {
-    let mut turns = u64::MAX;
-    while turns > 0 && turn() {
-        turns -= 1;
+fn main(rt: HostRuntime) -> io::Result<()> {
+    let mut input = rt.stdin();
+    for _ in 0..u64::MAX {
+        if !turn(&rt, &mut input)? {
+            break;
+        }
     }
+    Ok(())
 }
 
 // Reads one request and answers it; says whether to go on.
-fn turn() -> bool {
+fn turn(rt: &impl Print, input: &mut impl Read) -> io::Result<bool> {
     let mut head = [0u8; 3];
-    let got = io::read_full(STDIN_FILENO, &mut head);
+    let got = text::read_full(input, &mut head)?;
     if got == 0 {
-        return false;
+        return Ok(false);
     }
     if got < 3 {
-        return bad_request();
+        return bad_request(rt);
     }
     let size = two(head[1], head[2]);
     if MAX_FILE < size {
-        return bad_request();
+        return bad_request(rt);
     }
     let mut file = [0u8; MAX_FILE];
-    with_file(head[0], &mut file[..size])
+    with_file(rt, input, head[0], &mut file[..size])
 }
 
 // Goes on with the file, for which there is room, and the assignment's length.
-fn with_file(call: u8, file: &mut [u8]) -> bool {
+fn with_file(
+    rt: &impl Print,
+    input: &mut impl Read,
+    call: u8,
+    file: &mut [u8],
+) -> io::Result<bool> {
     let mut head = [0u8; 2];
-    if !filled(file) {
-        return bad_request();
+    if !filled(input, file)? {
+        return bad_request(rt);
     }
-    if !filled(&mut head) {
-        return bad_request();
+    if !filled(input, &mut head)? {
+        return bad_request(rt);
     }
     let size = two(head[0], head[1]);
     let mut bytes = [0u8; MAX_ASSIGNMENT];
     let mut values = [0i8; MAX_ASSIGNMENT];
-    with_assignment(call, file, &mut bytes[..size], &mut values[..size])
+    with_assignment(
+        rt,
+        input,
+        call,
+        file,
+        &mut bytes[..size],
+        &mut values[..size],
+    )
 }
 
 // Goes on with the assignment, first as bytes, which a text stays, and then as values.
-fn with_assignment(call: u8, file: &[u8], bytes: &mut [u8], values: &mut [i8]) -> bool {
-    if !filled(bytes) {
-        return bad_request();
+fn with_assignment(
+    rt: &impl Print,
+    input: &mut impl Read,
+    call: u8,
+    file: &[u8],
+    bytes: &mut [u8],
+    values: &mut [i8],
+) -> io::Result<bool> {
+    if !filled(input, bytes)? {
+        return bad_request(rt);
     }
     sign(bytes, values);
-    with_numbers(call, file, bytes, values)
+    with_numbers(rt, input, call, file, bytes, values)
 }
 
 // Goes on with the numbers behind the assignment, and answers.
-fn with_numbers(call: u8, file: &[u8], text: &[u8], assignment: &[i8]) -> bool {
+fn with_numbers(
+    rt: &impl Print,
+    input: &mut impl Read,
+    call: u8,
+    file: &[u8],
+    text: &[u8],
+    assignment: &[i8],
+) -> io::Result<bool> {
     let mut tail = [0u8; 8];
-    if !filled(&mut tail) {
-        return bad_request();
+    if !filled(input, &mut tail)? {
+        return bad_request(rt);
     }
     let request = Request {
         call: call,
@@ -90,55 +120,61 @@ fn with_numbers(call: u8, file: &[u8], text: &[u8], assignment: &[i8]) -> bool {
         budget: four(tail[2], tail[3], tail[4], tail[5]),
         room: two(tail[6], tail[7]),
     };
-    answer(file, text, assignment, request)
+    answer(rt, file, text, assignment, request)
 }
 
-fn answer(file: &[u8], text: &[u8], assignment: &[i8], request: Request) -> bool {
+fn answer(
+    rt: &impl Print,
+    file: &[u8],
+    text: &[u8],
+    assignment: &[i8],
+    request: Request,
+) -> io::Result<bool> {
     let call = request.call;
     let room = request.room;
     if MAX_ROOM < room {
-        return bad_request();
+        return bad_request(rt);
     }
     match call {
-        1 => answers::read(file),
-        2 => answers::judge(file, assignment),
+        1 => answers::read(rt, file),
+        2 => answers::judge(rt, file, assignment),
         3 => {
             let mut result = [BEFORE; MAX_ROOM];
-            answers::close(file, assignment, &mut result[..room])
+            answers::close(rt, file, assignment, &mut result[..room])
         }
         4 => {
             let mut out = [BEFORE as i16; MAX_ROOM];
-            answers::reason(file, assignment, request.atom, &mut out[..room])
+            answers::reason(rt, file, assignment, request.atom, &mut out[..room])
         }
         5 => {
             let mut result = [BEFORE; MAX_ROOM];
-            answers::search(file, request.budget, &mut result[..room])
+            answers::search(rt, file, request.budget, &mut result[..room])
         }
         6 => {
             let mut out = [BEFORE as i32; MAX_ROOM];
-            answers::write_clauses(file, &mut out[..room])
+            answers::write_clauses(rt, file, &mut out[..room])
         }
         7 => {
             let mut out = [BEFORE as u8; MAX_ROOM];
-            answers::write_dimacs(file, &mut out[..room])
+            answers::write_dimacs(rt, file, &mut out[..room])
         }
         8 => {
             let mut out = [BEFORE as u8; MAX_ROOM];
-            answers::read_dimacs(file, text, &mut out[..room])
+            answers::read_dimacs(rt, file, text, &mut out[..room])
         }
-        _ => bad_request(),
+        _ => bad_request(rt),
     }
 }
 
-fn bad_request() -> bool {
-    io::write_all(libc::STDOUT_FILENO, b"bad request\n");
-    false
+fn bad_request(rt: &impl Print) -> io::Result<bool> {
+    rt.write_all(b"bad request\n")?;
+    Ok(false)
 }
 
 // Reads all of a part, or says that the input ended in it.
-fn filled(part: &mut [u8]) -> bool {
+fn filled(input: &mut impl Read, part: &mut [u8]) -> io::Result<bool> {
     let size = part.len();
-    io::read_full(STDIN_FILENO, part) == size
+    Ok(text::read_full(input, part)? == size)
 }
 
 // Each byte as a signed one.

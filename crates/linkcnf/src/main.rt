@@ -2,45 +2,51 @@
 #![tactic(auto)]
 
 use planner::WriteAnswer;
+use std::io;
 use text::{INPUT, SIZE};
 
 // How many numbers there is room for.
 const ROOM: usize = 16384;
 
-fn main() {
+fn main(rt: HostRuntime) -> io::Result<()> {
     let mut file = [0u8; INPUT];
-    let size = io::read_full(libc::STDIN_FILENO, &mut file);
+    let size = text::read_full(&mut rt.stdin(), &mut file)?;
     let mut out = [0u8; SIZE];
-    let end = report(&mut out, &file[..size]);
-    text::flush(&out, end);
+    let end = report(&rt, &mut out, &file[..size])?;
+    text::flush(&rt, &out, end)
 }
 
-fn report(out: &mut [u8; SIZE], file: &[u8]) -> usize {
+fn report(rt: &impl Print, out: &mut [u8; SIZE], file: &[u8]) -> io::Result<usize> {
     let mut numbers = [0i32; ROOM];
     let answer = planner::write_clauses(file, &mut numbers);
     match answer {
-        WriteAnswer::Refused(why) => text::refusal_line(out, why),
-        WriteAnswer::Written(_, _, count) => lines(out, &numbers, count),
+        WriteAnswer::Refused(why) => text::refusal_line(rt, out, why),
+        WriteAnswer::Written(_, _, count) => lines(rt, out, &numbers, count),
     }
 }
 
 // The first `count` numbers, each clause a line with its 0.
-fn lines(out: &mut [u8; SIZE], numbers: &[i32], count: usize) -> usize {
+fn lines(
+    rt: &impl Print,
+    out: &mut [u8; SIZE],
+    numbers: &[i32],
+    count: usize,
+) -> io::Result<usize> {
     let mut next = 0;
     let mut i = 0;
     while i < count && i < numbers.len() {
-        next = entry(out, next, numbers[i]);
+        next = entry(rt, out, next, numbers[i])?;
         i += 1;
     }
-    next
+    Ok(next)
 }
 
 // A number and what stands behind it: a 0 ends its line.
-fn entry(out: &mut [u8; SIZE], at: usize, value: i32) -> usize {
-    let next = text::signed(out, at, value);
+fn entry(rt: &impl Print, out: &mut [u8; SIZE], at: usize, value: i32) -> io::Result<usize> {
+    let next = text::signed(rt, out, at, value)?;
     if value == 0 {
-        text::byte(out, next, b'\n')
+        text::byte(rt, out, next, b'\n')
     } else {
-        text::byte(out, next, b' ')
+        text::byte(rt, out, next, b' ')
     }
 }

@@ -6,26 +6,27 @@ ghost use Rattle.std.specs.Prelude.{◌≤◌};
 
 use plan::Assignment;
 use planner::{ReadAnswer, SearchAnswer};
+use std::io;
 use text::{INPUT, SIZE};
 
 const BUDGET: u32 = 1000000;
 
-fn main() {
+fn main(rt: HostRuntime) -> io::Result<()> {
     let mut file = [0u8; INPUT];
-    let size = io::read_full(libc::STDIN_FILENO, &mut file);
+    let size = text::read_full(&mut rt.stdin(), &mut file)?;
     let mut out = [0u8; SIZE];
-    let end = report(&mut out, &file[..size]);
-    text::flush(&out, end);
+    let end = report(&rt, &mut out, &file[..size])?;
+    text::flush(&rt, &out, end)
 }
 
-fn report(out: &mut [u8; SIZE], file: &[u8]) -> usize {
+fn report(rt: &impl Print, out: &mut [u8; SIZE], file: &[u8]) -> io::Result<usize> {
     let answer = planner::read(file);
     match answer {
-        ReadAnswer::Refused(why) => text::refusal_line(out, why),
+        ReadAnswer::Refused(why) => text::refusal_line(rt, out, why),
         ReadAnswer::Accepted(plan) => {
             let mut values = [0i8; Assignment::MAX];
             let count = least(plan::wide(plan.variables), Assignment::MAX);
-            searched(out, file, &mut values[..count])
+            searched(rt, out, file, &mut values[..count])
         }
     }
 }
@@ -37,48 +38,64 @@ fn least(a: usize, b: usize) -> usize
 }
 
 // What the search finds, with a place of `values` for each variable.
-fn searched(out: &mut [u8; SIZE], file: &[u8], values: &mut [i8]) -> usize {
+fn searched(
+    rt: &impl Print,
+    out: &mut [u8; SIZE],
+    file: &[u8],
+    values: &mut [i8],
+) -> io::Result<usize> {
     let answer = planner::search(file, BUDGET, values);
     match answer {
-        SearchAnswer::Refused(why) => text::refusal_line(out, why),
+        SearchAnswer::Refused(why) => text::refusal_line(rt, out, why),
         SearchAnswer::Plan(branchings) => {
-            let next = text::word(out, 0, b"s SATISFIABLE\n");
-            let next = assignment(out, next, values);
-            counted(out, next, branchings)
+            let next = text::word(rt, out, 0, b"s SATISFIABLE\n")?;
+            let next = assignment(rt, out, next, values)?;
+            counted(rt, out, next, branchings)
         }
         SearchAnswer::Impossible(branchings) => {
-            let next = text::word(out, 0, b"s UNSATISFIABLE\n");
-            counted(out, next, branchings)
+            let next = text::word(rt, out, 0, b"s UNSATISFIABLE\n")?;
+            counted(rt, out, next, branchings)
         }
         SearchAnswer::Undecided(branchings) => {
-            let next = text::word(out, 0, b"s UNKNOWN\n");
-            counted(out, next, branchings)
+            let next = text::word(rt, out, 0, b"s UNKNOWN\n")?;
+            counted(rt, out, next, branchings)
         }
     }
 }
 
 // The line of all variables with their signs and a closing 0.
-fn assignment(out: &mut [u8; SIZE], at: usize, values: &[i8]) -> usize {
-    let mut next = text::byte(out, at, b'v');
+fn assignment(
+    rt: &impl Print,
+    out: &mut [u8; SIZE],
+    at: usize,
+    values: &[i8],
+) -> io::Result<usize> {
+    let mut next = text::byte(rt, out, at, b'v')?;
     for i in 0..values.len() {
-        next = variable(out, next, i + 1, values[i]);
+        next = variable(rt, out, next, i + 1, values[i])?;
     }
-    next = text::field(out, next, 0);
-    text::byte(out, next, b'\n')
+    next = text::field(rt, out, next, 0)?;
+    text::byte(rt, out, next, b'\n')
 }
 
 // A blank and a variable's number, negative for off.
-fn variable(out: &mut [u8; SIZE], at: usize, number: usize, value: i8) -> usize {
-    let mut next = text::byte(out, at, b' ');
+fn variable(
+    rt: &impl Print,
+    out: &mut [u8; SIZE],
+    at: usize,
+    number: usize,
+    value: i8,
+) -> io::Result<usize> {
+    let mut next = text::byte(rt, out, at, b' ')?;
     if value < 0 {
-        next = text::byte(out, next, b'-');
+        next = text::byte(rt, out, next, b'-')?;
     }
-    text::number(out, next, number as u64)
+    text::number(rt, out, next, number as u64)
 }
 
 // The line of the count of branchings.
-fn counted(out: &mut [u8; SIZE], at: usize, branchings: u32) -> usize {
-    let next = text::word(out, at, b"c branchings");
-    let next = text::field(out, next, branchings as u64);
-    text::byte(out, next, b'\n')
+fn counted(rt: &impl Print, out: &mut [u8; SIZE], at: usize, branchings: u32) -> io::Result<usize> {
+    let next = text::word(rt, out, at, b"c branchings")?;
+    let next = text::field(rt, out, next, branchings as u64)?;
+    text::byte(rt, out, next, b'\n')
 }

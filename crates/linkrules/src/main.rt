@@ -1,10 +1,16 @@
 // linkrules: its argument names a plan file, and standard input has house rules for it as DIMACS text; it writes the plan file with the rules put in.
 #![tactic(auto)]
 
+ghost use Rattle.std.specs.Io.{ReadsAtMost};
 ghost use Rattle.std.specs.Prelude.{◌≤◌, length};
 
 use plan::Clause;
 use planner::ReadDimacsAnswer;
+use std::env::Env;
+use std::fs::File;
+use std::io::{ErrorKind, Read};
+use std::rt::Files;
+use std::{io, str};
 use text::INPUT;
 
 // How much is read of the text: one byte more than there may be, so that a longer one is refused and not cut.
@@ -16,51 +22,71 @@ const RECORDS: usize = Clause::MAX * 3 + Clause::MAX_LITERALS * 2;
 // The end record's bytes.
 const END: usize = 3;
 
-fn main() {
+fn main(rt: HostRuntime) -> io::Result<()> {
     let mut name = [0u8; 4096];
-    let size = os::arg(1, &mut name);
-    let descriptor = os::open_read(&name[..size]);
-    if descriptor < 0 {
-        os::fail(b"linkrules: the plan file");
-        return;
+    // An argument that is missing or too long is the empty name, which no file has.
+    let size = rt.arg(1, &mut name).unwrap_or(0);
+    match opened(&rt, &name[..size]) {
+        Ok(mut plan) => {
+            let mut file = [0u8; INPUT];
+            let got = read_plan(&mut plan, &mut file)?;
+            with_file(&rt, &file[..got])
+        }
+        Err(why) => eprintln!(rt; "linkrules: the plan file: {why}"),
     }
-    let mut file = [0u8; INPUT];
-    let got = io::read_full(descriptor, &mut file);
-    with_file(&file[..got]);
+}
+
+// Opens the plan file. A name that is not text opens none, since a path is text.
+fn opened<R: Files>(rt: &R, name: &[u8]) -> io::Result<R::File> {
+    match str::from_utf8(name) {
+        Ok(name) => File::open(rt, name),
+        Err(_) => Err(io::Error::new(ErrorKind::InvalidInput, "its name is not UTF-8")),
+    }
+}
+
+// Reads the plan file. A folder can be opened too, and is read as an empty file.
+fn read_plan(plan: &mut impl Read, file: &mut [u8]) -> io::Result<usize>
+    ensures { ReadsAtMost result file.new }
+{
+    match text::read_full(plan, file) {
+        Err(why) if why.kind() == ErrorKind::IsADirectory => Ok(0),
+        got => got,
+    }
 }
 
 // Goes on with the plan file.
-fn with_file(file: &[u8]) {
+fn with_file(rt: &(impl Input + Print + Eprint), file: &[u8]) -> io::Result<()> {
     let mut text = [0u8; TEXT];
-    with_room(file, &mut text);
+    with_room(rt, file, &mut text)
 }
 
 // Reads the text.
-fn with_room(file: &[u8], text: &mut [u8; TEXT]) {
-    let size = io::read_full(libc::STDIN_FILENO, text);
+fn with_room(
+    rt: &(impl Input + Print + Eprint),
+    file: &[u8],
+    text: &mut [u8; TEXT],
+) -> io::Result<()> {
+    let size = text::read_full(&mut rt.reader(), text)?;
     if size == TEXT {
-        io::write_all(
-            libc::STDERR_FILENO,
-            b"linkrules: the text is longer than 1048576 bytes\n",
-        );
-        return;
+        return eprintln!(rt; "linkrules: the text is longer than 1048576 bytes");
     }
-    with_text(file, text, size);
+    with_text(rt, file, text, size)
 }
 
 // Goes on with the text, the first `size` bytes.
-fn with_text(file: &[u8], text: &[u8], size: usize)
+fn with_text(rt: &impl Print, file: &[u8], text: &[u8], size: usize) -> io::Result<()>
     requires { size ≤ length text.now }
 {
-    report(file, &text[..size]);
+    report(rt, file, &text[..size])
 }
 
-fn report(file: &[u8], text: &[u8]) {
+fn report(rt: &impl Print, file: &[u8], text: &[u8]) -> io::Result<()> {
     let mut records = [0u8; RECORDS];
     let answer = planner::read_dimacs(file, text, &mut records);
     match answer {
-        ReadDimacsAnswer::Refused(why) => text::refuse(why),
+        ReadDimacsAnswer::Refused(why) => text::refuse(rt, why),
         ReadDimacsAnswer::Rules(clauses, literals) => joined(
+            rt,
             file,
             &records,
             clauses * 3 + literals * 2,
@@ -69,12 +95,12 @@ fn report(file: &[u8], text: &[u8]) {
 }
 
 // The records stand before the file's end record.
-fn joined(file: &[u8], records: &[u8], used: usize)
+fn joined(rt: &impl Print, file: &[u8], records: &[u8], used: usize) -> io::Result<()>
     requires in_bounds { 3 ≤ length file.now }
     requires used_in_bounds { used ≤ length records.now }
 {
     let end = file.len() - END;
-    io::write_all(libc::STDOUT_FILENO, &file[..end]);
-    io::write_all(libc::STDOUT_FILENO, &records[..used]);
-    io::write_all(libc::STDOUT_FILENO, &file[end..]);
+    rt.write_all(&file[..end])?;
+    rt.write_all(&records[..used])?;
+    rt.write_all(&file[end..])
 }
