@@ -5,12 +5,14 @@
 // and hands back the error of a write that failed.
 #![tactic(auto)]
 
+ghost use Rattle.std.specs.Prelude.{◌<◌, length, take, IfOk};
 ghost use Rattle.std.specs.Io.{ReadsAtMost};
+ghost use Rattle.std.specs.Io.KnownBytes.{Consumes, IsAtEnd};
 
 use itoa::Buffer;
 use plan::{Plan, Refusal, magnitude};
 use std::io;
-use std::io::{ErrorKind, Read};
+use std::io::Read;
 
 // The length of the buffer.
 pub const SIZE: usize = 4096;
@@ -18,22 +20,21 @@ pub const SIZE: usize = 4096;
 // How much a program reads: one byte more than a plan file may have, so that a longer input is refused and not cut.
 pub const INPUT: usize = Plan::MAX_BYTES + 1;
 
-// Reads until the buffer is full or the input ends, and hands back how many bytes stand at the front of the buffer then. A read that a
-// signal interrupts is made again; nothing says that this ends, so the turns are counted, from a number that no run uses up.
-pub fn read_full(input: &mut impl Read, buffer: &mut [u8]) -> io::Result<usize>
-    ensures { ReadsAtMost result buffer.new }
+// Reads until the buffer is full or the input ends, and hands back how many bytes stand at the front of the buffer then.
+pub fn read_full<R: Read>(input: &mut R, buffer: &mut [u8]) -> io::Result<usize>
+    ensures count { ReadsAtMost result buffer.new }
+
+    // Where it is known what the input has left: they are its first bytes, and fewer than there is room for only at its end.
+    ensures bytes { IfOk result (λ n. Consumes (R.remaining input.old) (R.remaining input.new) (take n buffer.new)) }
+    ensures end { IfOk result (λ n. n < length buffer.new → IsAtEnd (R.remaining input.new)) }
 {
     let mut done = 0;
-    for _ in 0..u64::MAX {
-        if done == buffer.len() {
+    while done < buffer.len() {
+        let count = input.read(&mut buffer[done..])?;
+        if count == 0 {
             break;
         }
-        match input.read(&mut buffer[done..]) {
-            Ok(0) => break,
-            Ok(count) => done += count,
-            Err(why) if why.kind() == ErrorKind::Interrupted => {}
-            Err(why) => return Err(why),
-        }
+        done += count;
     }
     Ok(done)
 }

@@ -1,6 +1,10 @@
--- What has been read stands in the buffer.
-use Rattle.std.proofs.Common.{◌≤◌, length}
+-- What has been read stands in the buffer, and is gone from what the input has left. The measure is the room that is left.
+use Rattle.std.proofs.Common.{◌-◌, ◌≤◌, length, take}
+use Rattle.std.specs.Io.KnownBytes.{Consumes}
 use Rattle.text.proofs.read_full.Given as goal
 
-abbrev pub invariant-loop : goal.invariant-loop
-invariant-loop g l = l.done ≤ length l.buffer
+abbrev pub invariant-loop-done : goal.invariant-loop-done
+invariant-loop-done g l = (l.done ≤ length l.buffer) × Consumes (g.R.Read.remaining l.initial.input) (g.R.Read.remaining l.input) (take l.done l.buffer)
+
+abbrev pub decreases-loop-done : goal.decreases-loop-done
+decreases-loop-done g l = length l.buffer - l.done
