@@ -7,7 +7,7 @@ use lib.IntN.{ℤ}
 use Rattle.plan.specs.Meaning.{Edge, Atom}
 use Rattle.plan.specs.Tables.{edges_of, atom_of}
 use Rattle.reason.specs.Marks.{Fits, EdgeFits, FirstNearer}
-use Rattle.reason.proofs.Paths.{edge_fits, first_in, cost_low, start_away, path_none, path_more}
+use Rattle.reason.proofs.Paths.{edge_fits, first_in, cost_low, cost_high, start_away, path_none, path_more}
 use Rattle.reason.proofs.+mark_path.Goals as goal
 
 pub returns-then-count-eq0 : goal.returns-then-count-eq0
@@ -26,6 +26,9 @@ mark-requires t c =
       variable_le_max_variables = omega (arith, f.high, c.requires.told.fits.few);
       marks_len = c.requires.marks_len;
     }
+
+pub overflow_sub-left : goal.overflow_sub-left
+overflow_sub-left t c = omega (arith, cost_high (edges_of c.args.edges.now) c.args.assignment.now (atom_of c.args.atom) c.nearer_edge-edge.ensures _ c.cost_for.ensures)
 
 pub mark_path-requires : goal.mark_path-requires
 mark_path-requires t c =
