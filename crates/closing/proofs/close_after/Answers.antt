@@ -106,7 +106,7 @@ loop-preserved c =
     (onward_then (plan_of c.args.plan c.args.edges.now c.args.atoms.now c.args.clauses.now) c.propagate.new.values c.loop.values c.round-step.new.values c.loop.invariant.0 r.onward, r.tells.1)
 
 pub shape_of-values-in-Clash : goal.shape_of-values-in-Clash
-shape_of-values-in-Clash c = (returns-in-Clash c).0.long ∙ sym c.requires.assigned.long
+shape_of-values-in-Clash c = (returns-in-Clash c).assigned_2.long ∙ sym c.requires.assigned.long
 
 pub shape_of-values-in-Still : goal.shape_of-values-in-Still
-shape_of-values-in-Still c = (returns-in-Still c).0.long ∙ sym c.requires.assigned.long
+shape_of-values-in-Still c = (returns-in-Still c).assigned_2.long ∙ sym c.requires.assigned.long

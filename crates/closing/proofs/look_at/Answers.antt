@@ -1,8 +1,9 @@
 -- `closing::look_at`: where the atom's truth is the verdict that is asked for, it is settled and, if it is not one of the others, gives its literal; else it says nothing.
 use mathlib.Core.Path.{◌≡◌, refl, ◌∙◌, subst}
 use mathlib.Core.Logic.{◌↔◌}
-use mathlib.Core.Bool.{beq}
+use mathlib.Core.Bool.{Bool, beq}
 use mathlib.Core.List.{List}
+use Prim.Native.Nat.{ℕ}
 use borrow.Author.Rules.{rules}
 use borrow.Author.Tests.{not-true, not-false}
 use lib.IntN.{ℤ}
@@ -11,7 +12,7 @@ use lib.Dec.{T}
 use mir.Syntax.{w16}
 use mir.Val.{SFits, of_z, to_z}
 use mir.Facts.{to_z-of_z}
-use Rattle.plan.specs.Meaning.{PlanFile, literal_of, true_in}
+use Rattle.plan.specs.Meaning.{Atom, PlanFile, literal_of, true_in}
 use Rattle.plan.specs.Closing.{Settles}
 use Rattle.plan.specs.Ranged.{LiteralFits}
 use Rattle.plan.specs.Tables.{atom_of}
@@ -23,61 +24,43 @@ use Rattle.closing.proofs.Looking.{literal_fits, verdict, looks_silent, looks_ge
 use Rattle.closing.proofs.look_at.Goals as goal
 
 -- one that is not heard
-module _ (c : goal.Then-is_true-holds) where
-  abbrev outside : Type 0
-  outside = Outside c.args.others c.args.at
-
-  silent : ((φ : PlanFile) (v₀ : List ℤ) → outside → Settling φ.edges v₀ (atom_of c.args.atom) c.args.holds c.args.distances.now
-      → Settles φ (true_in v₀) (atom_of c.args.atom) c.args.holds → ⊥)
-      → Told outside c.args.holds (atom_of c.args.atom) c.args.distances.now c.args.values.now c.args.values.now Still
-  silent n φ ok s m v₀ sub k =
-      let a = c.args in
-      looks_silent φ ok (atom_of a.atom) m a.holds v₀ a.values.now a.values.now s outside (λ q. n φ v₀ q (k q))
-
-  -- the code's test
-  tested : (φ : PlanFile) (v₀ : List ℤ) → Settling φ.edges v₀ (atom_of c.args.atom) c.args.holds c.args.distances.now
-      → T (beq c.is_true.result c.args.holds) ↔ Settles φ (true_in v₀) (atom_of c.args.atom) c.args.holds
-  tested φ v₀ k = let a = c.args in verdict a.holds c.is_true.result φ v₀ (atom_of a.atom) a.distances.now c.is_true.ensures k
+silent : (Q : Type 0) (b : Bool) (A : Atom) (d : List ℕ) (v : List ℤ)
+    → ((φ : PlanFile) (v₀ : List ℤ) → Q → Settling φ.edges v₀ A b d → Settles φ (true_in v₀) A b → ⊥) → Told Q b A d v v Still
+silent Q b A d v n φ ok s m v₀ sub k = looks_silent φ ok A m b v₀ v v s Q (λ q. n φ v₀ q (k q))
 
 pub returns-then-is_true-holds : goal.returns-then-is_true-holds
 returns-then-is_true-holds c =
-    silent c (λ φ v₀ q k x. not_so {r = beq c.is_true.result c.args.holds} refl (not-true _ c.if-is_true-holds.true) ((tested c φ v₀ k).1 x))
+    let a = c.args in
+    let r = c.is_true.result in
+    silent _ a.holds (atom_of a.atom) a.distances.now a.values.now
+    (λ φ v₀ q k x. not_so {r = beq r a.holds} refl (not-true _ c.if-is_true-holds.true) ((verdict a.holds r φ v₀ (atom_of a.atom) a.distances.now c.is_true.ensures k).1 x))
 
 pub returns-then-has : goal.returns-then-has
 returns-then-has c =
-    let silent : ((φ : PlanFile) (v₀ : List ℤ) → (Outside c.args.others c.args.at) → Settling φ.edges v₀ (atom_of c.args.atom) c.args.holds c.args.distances.now → Settles φ (true_in v₀) (atom_of c.args.atom) c.args.holds → ⊥) → Told (Outside c.args.others c.args.at) c.args.holds (atom_of c.args.atom) c.args.distances.now c.args.values.now c.args.values.now Still = λ n φ ok s m v₀ sub k. let a = c.args in looks_silent φ ok (atom_of a.atom) m a.holds v₀ a.values.now a.values.now s (Outside c.args.others c.args.at) (λ q. n φ v₀ q (k q)) in
-    silent (λ φ v₀ q k x. q (so c.has.ensures c.if-has.true))
+    let a = c.args in
+    silent _ a.holds (atom_of a.atom) a.distances.now a.values.now (λ φ v₀ q k x. q (so c.has.ensures c.if-has.true))
 
 -- the literal
-module _ (c : goal.After-given) where
-  abbrev begin : goal.Start
-  begin = c.before.before.before.before.before.before
-
-  abbrev literal : ℤ
-  literal = literal_of begin.args.holds begin.args.atom.variable
-
-  literal_is : to_z w16 (of_z w16 c.given.result) ≡ literal
-  literal_is = let f : SFits w16 c.given.result = search rules in to_z-of_z f ∙ c.given.ensures
-
-  fits : LiteralFits (length begin.args.values.now) literal
-  fits = literal_fits begin.args.values.now (atom_of begin.args.atom) begin.args.holds begin.pre.1
+literal_is : (g l : ℤ) → SFits w16 g → g ≡ l → to_z w16 (of_z w16 g) ≡ l
+literal_is g l f e = to_z-of_z f ∙ e
 
 pub give-requires : goal.give-requires
 give-requires c =
-    rw (literal_is c) (record {
-      assigned = (begin c).requires.1.shape;
-      values_len_bound = (begin c).requires.1.small;
-      literal_fits = fits c;
+    let a = c.args in
+    let r = c.requires.atom_ready in
+    rw (literal_is c.given.result (literal_of a.holds a.atom.variable) (search rules) c.given.ensures) (record {
+      assigned = r.shape;
+      values_len_bound = r.small;
+      literal_fits = literal_fits a.values.now (atom_of a.atom) a.holds r;
     })
 
 pub returns : goal.returns
-returns c =
-    let tested : (φ : PlanFile) (v₀ : List ℤ) → Settling φ.edges v₀ (atom_of c.args.atom) c.args.holds c.args.distances.now → T (beq c.is_true.result c.args.holds) ↔ Settles φ (true_in v₀) (atom_of c.args.atom) c.args.holds = λ φ v₀ k. let a = c.args in verdict a.holds c.is_true.result φ v₀ (atom_of a.atom) a.distances.now c.is_true.ensures k in
-    let literal_is : to_z w16 (of_z w16 c.given.result) ≡ (literal_of c.args.holds c.args.atom.variable) = let f : SFits w16 c.given.result = search rules in to_z-of_z f ∙ c.given.ensures in
-    λ φ ok s m v₀ sub k.
-    let a = (c.before.before.before.before.before.before).args in
+returns c = λ φ ok s m v₀ sub k.
+    let a = c.args in
+    let g = c.give in
+    let r = c.is_true.result in
     let q = not_so c.has.ensures c.if-has.false in
-    let x = (tested φ v₀ (k q)).0 (so {r = beq c.is_true.result a.holds} refl (not-false _ c.if-is_true-holds.false)) in
-    looks_so φ a.values.now c.give.new.values c.give.result (λ h o. h)
-    (looks_gets φ ok (atom_of a.atom) m a.holds v₀ a.values.now c.give.new.values s sub x c.give.result
-    (subst (λ l. Gets l a.values.now c.give.new.values c.give.result) literal_is c.give.ensures))
+    let x = (verdict a.holds r φ v₀ (atom_of a.atom) a.distances.now c.is_true.ensures (k q)).0 (so {r = beq r a.holds} refl (not-false _ c.if-is_true-holds.false)) in
+    looks_so φ a.values.now g.new.values g.result (λ h o. h)
+    (looks_gets φ ok (atom_of a.atom) m a.holds v₀ a.values.now g.new.values s sub x g.result
+    (subst (λ l. Gets l a.values.now g.new.values g.result) (literal_is c.given.result _ (search rules) c.given.ensures) g.ensures))

@@ -1,20 +1,22 @@
 -- `closing::look_for`: the atoms before the place that count hops are heard without a clash, and the distances are those from the source in the graph that settles the verdict.
 use mathlib.Core.Path.{◌≡◌, refl, sym, ap, ◌∙◌, subst}
-use mathlib.Core.Logic.{⊎_elim}
+use mathlib.Core.Bool.{Bool}
 use mathlib.Core.List.{List}
 use Prim.Native.Nat.{ℕ, ◌+◌, ◌*◌, ◌-◌, ◌≤◌, ◌<◌}
 use native.Mathlib.Omega.{arith}
 use borrow.Author.Rules.{rules}
-use borrow.Author.Tests.{not-true}
 use lib.ListN.{length}
 use lib.IntN.{ℤ}
 use lib.Dec.{T}
-use Rattle.plan.specs.Meaning.{Atom, atom, measure_of}
+use Rattle.plan.specs.Meaning.{Atom, atom, true_in, graph_of}
 use Rattle.plan.specs.Places.{First}
-use Rattle.plan.specs.Tables.{atom_of, atoms_of}
+use Rattle.plan.specs.Tables.{edges_of, atom_of, atoms_of}
+use Rattle.plan.specs.Closing.{settling}
+use Rattle.plan.specs.declared.Kind.{Kind}
+use Rattle.plan.specs.declared.Side.{Side}
 use Rattle.plan.specs.declared.Measure.TheVariants.{Hops}
 use Rattle.plan.proofs.Places.{without_none, without_more}
-use Rattle.walk.specs.Walking.{Walked}
+use Rattle.walk.specs.Walking.{Neighbours, CountLengths, Walked}
 use Rattle.walk.proofs.Truths.{not_so}
 use Rattle.walk.proofs.Asked.{by_hops}
 use Rattle.unit.specs.Onward.{Onward}
@@ -24,224 +26,20 @@ use Rattle.closing.specs.declared.Step.{Step}
 use Rattle.closing.specs.declared.Step.TheVariants.{Clash, Set, Still}
 use Rattle.closing.proofs.Looking.{ready_on, ready_atoms, ready_inside, ready_placed, then_clash, then_set, then_still, looks_clash, Sweeps, sweep_start, sweep_past, sweep_one, sweep_end, settles_by}
 use Rattle.closing.proofs.look_for.Goals as goal
+use Rattle.closing.proofs.look_for.Goals.{then-atom-source+else-not-is_due, else-atom-source}
 
--- the first atom with something to say
-module _ (c : goal.Then-at-count) where
-  abbrev given : List ℤ
-  given = c.args.values.now
+-- before the first atom with something to say
+start : (es : List ℕ) {bs : List ℕ} {count at : ℕ} (lengths : ℕ) (b : Bool) {v : List ℤ} → First (Due lengths bs b v) 0 count at → Sweeps (Outside lengths) es bs b v v at Still
+start es {at = at} lengths b {v} f = sweep_past (Outside lengths) b v v 0 at Still f.before (sweep_start (Outside lengths) b v)
 
-  abbrev hops : ℕ → Type 0
-  hops = Outside c.args.lengths
+-- an atom of the table has its variable where the sweep has come
+ready_at : {es bs : List ℕ} {count : ℕ} (Q : ℕ → Type 0) (at : ℕ) (b : Bool) {v w : List ℤ} (r : Step) → Ready es bs count v → Sweeps Q es bs b v w at r
+    → (k : ℕ) → k < count → AtomReady w (atom (atoms_of bs) k)
+ready_at Q at b r x s k h = (ready_atoms (ready_on x (s x.file x.has).onward.shape)).each k h
 
-  first : First (Due c.args.lengths c.args.atoms.now c.args.holds given) 0 c.args.count c.next_to_say-at.result
-  first = c.next_to_say-at.ensures
-
-  start : Sweeps hops c.args.edges.now c.args.atoms.now c.args.holds given given c.next_to_say-at.result Still
-  start = sweep_past hops c.args.holds given given 0 c.next_to_say-at.result Still first.before (sweep_start hops c.args.holds given)
-
-pub returns-then-at-count : goal.returns-then-at-count
-returns-then-at-count c =
-    sweep_end (hops c) c.args.holds (given c) (given c) c.args.count c.next_to_say-at.result Still c.requires.ready.long (omega (arith, c.if-at-count.true)) (start c)
-
-pub neighbours-sets-requires : goal.neighbours-sets-requires
-neighbours-sets-requires c = record {
-      inside = ready_inside c.requires.ready;
-      placed = ready_placed c.requires.ready;
-    }
-
--- the neighbour sets are there, and so is an atom
-module _ (c : goal.After-neighbours-sets) where
-  abbrev number : ℕ
-  number = c.next_to_say-at.result
-
-  inside : number < c.args.count
-  inside =
-      let first : First (Due c.args.lengths c.args.atoms.now c.args.holds c.args.values.now) 0 c.args.count c.next_to_say-at.result = c.next_to_say-at.ensures in
-      omega (arith, (first).inside, c.if-at-count.false)
-
-  first_from : (atom (atoms_of c.args.atoms.now) number).from < 64
-  first_from = ((ready_atoms c.requires.ready).each number inside).fits.from_in
-
-pub atom_at-first-requires : goal.atom_at-first-requires
-atom_at-first-requires c = omega (arith, c.requires.ready.long, inside c)
-
-pub walk-requires : goal.walk-requires
-walk-requires c =
-    let first : First (Due c.args.lengths c.args.atoms.now c.args.holds c.args.values.now) 0 c.args.count c.next_to_say-at.result = c.next_to_say-at.ensures in
-    let inside : c.next_to_say-at.result < c.args.count = omega (arith, (first).inside, c.if-at-count.false) in
-    let first_from : (atom (atoms_of c.args.atoms.now) c.next_to_say-at.result).from < 64 = ((ready_atoms c.requires.ready).each c.next_to_say-at.result inside).fits.from_in in
-    record {
-      source_bound = omega (arith, c.wide.ensures, ap (λ (A : Atom). A.from) c.atom_at-first.ensures, first_from);
-      room = c.blank-distances.ensures;
-    }
-
-pub loop-at-init : goal.loop-at-init
-loop-at-init c =
-    let first : First (Due c.args.lengths c.args.atoms.now c.args.holds c.args.values.now) 0 c.args.count c.next_to_say-at.result = c.next_to_say-at.ensures in
-    let start : Sweeps (Outside c.args.lengths) c.args.edges.now c.args.atoms.now c.args.holds c.args.values.now c.args.values.now c.next_to_say-at.result Still = sweep_past (Outside c.args.lengths) c.args.holds c.args.values.now c.args.values.now 0 c.next_to_say-at.result Still first.before (sweep_start (Outside c.args.lengths) c.args.holds c.args.values.now) in
-    ((first).inside, rw c.wide.ensures at c.walk.ensures, (λ t. t), start)
-
--- a turn of the loop
-module _ (c : goal.After-loop-at) where
-  abbrev begun : goal.Start
-  begun = c.before.before.before.before.before.before.before.before.before.before.before.before.before.before.before
-
-  abbrev table : List ℕ
-  table = begun.args.atoms.now
-
-  so_far : Onward begun.pre.0.file c.args.values.now c.loop-at.values
-  so_far = (c.loop-at.invariant.3 begun.pre.0.file begun.pre.0.has).onward
-
-  ready : Ready begun.args.edges.now table begun.args.count c.loop-at.values
-  ready = ready_on begun.pre.0 so_far.shape
-
--- its atom
-module _ (c : goal.After-atom_at-atom) where
-  abbrev this : Atom
-  this = atom (atoms_of c.args.atoms.now) c.loop-at.at
-
-  from_is : c.atom_at-atom.result.from ≡ this.from
-  from_is = ap (λ (A : Atom). A.from) c.atom_at-atom.ensures
-
-  its_place : c.loop-at.at < (c.before.before.before.before.before.before.before.before.before.before.before.before.before.before.before).args.count
-  its_place = c.loop-at-test.true
-
-  this_ready : AtomReady c.loop-at.values this
-  this_ready =
-      let so_far : Onward c.requires.ready.file c.args.values.now c.loop-at.values = (c.loop-at.invariant.3 c.requires.ready.file c.requires.ready.has).onward in
-      let ready : Ready c.args.edges.now c.args.atoms.now c.args.count c.loop-at.values = ready_on c.requires.ready so_far.shape in
-      (ready_atoms ready).each c.loop-at.at its_place
-
-  atom_ready : AtomReady c.loop-at.values (atom_of c.atom_at-atom.result)
-  atom_ready = subst (AtomReady c.loop-at.values) (sym c.atom_at-atom.ensures) this_ready
-
-  less : (c.before.before.before.before.before.before.before.before.before.before.before.before.before.before.before).args.count - (c.loop-at.at + 1) < (c.before.before.before.before.before.before.before.before.before.before.before.before.before.before.before).args.count - c.loop-at.at
-  less = omega (arith, its_place)
-
-  -- it is passed by where it is not due
-  past : (Due (c.before.before.before.before.before.before.before.before.before.before.before.before.before.before.before).args.lengths c.args.atoms.now (c.before.before.before.before.before.before.before.before.before.before.before.before.before.before.before).args.holds c.loop-at.values c.loop-at.at → ⊥)
-      → Sweeps (Outside c.args.lengths) (c.before.before.before.before.before.before.before.before.before.before.before.before.before.before.before).args.edges.now c.args.atoms.now (c.before.before.before.before.before.before.before.before.before.before.before.before.before.before.before).args.holds c.args.values.now c.loop-at.values (c.loop-at.at + 1) c.loop-at.step
-  past n =
-      let b = (c.before.before.before.before.before.before.before.before.before.before.before.before.before.before.before).args in
-      sweep_past (Outside c.args.lengths) b.holds c.args.values.now c.loop-at.values c.loop-at.at (c.loop-at.at + 1) c.loop-at.step
-      (without_more (Due b.lengths c.args.atoms.now b.holds c.loop-at.values) (without_none _ _) n) c.loop-at.invariant.3
-
-  on : c.loop-at.at + 1 ≤ (c.before.before.before.before.before.before.before.before.before.before.before.before.before.before.before).args.count
-  on = omega (arith, its_place)
-
-  few : c.loop-at.at < 64
-  few = omega (arith, (c.before.before.before.before.before.before.before.before.before.before.before.before.before.before.before).pre.1.few, its_place)
-
-  its_row : c.loop-at.at * 5 + 4 < length c.args.atoms.now
-  its_row = omega (arith, (c.before.before.before.before.before.before.before.before.before.before.before.before.before.before.before).pre.0.long, its_place)
-
-pub is_due-requires : goal.is_due-requires
-is_due-requires c =
-    let its_place : c.loop-at.at < (c.before.before.before.before.before.before.before.before.before.before.before.before.before.before.before).args.count = c.loop-at-test.true in
-    let few : c.loop-at.at < 64 = omega (arith, (c.before.before.before.before.before.before.before.before.before.before.before.before.before.before.before).pre.1.few, its_place) in
-    let its_row : c.loop-at.at * 5 + 4 < length c.args.atoms.now = omega (arith, (c.before.before.before.before.before.before.before.before.before.before.before.before.before.before.before).pre.0.long, its_place) in
-    let so_far : Onward c.requires.ready.file c.args.values.now c.loop-at.values = (c.loop-at.invariant.3 c.requires.ready.file c.requires.ready.has).onward in
-    let ready : Ready c.args.edges.now c.args.atoms.now c.args.count c.loop-at.values = ready_on c.requires.ready so_far.shape in
-    let this_ready : AtomReady c.loop-at.values (atom (atoms_of c.args.atoms.now) c.loop-at.at) = (ready_atoms ready).each c.loop-at.at its_place in
-    record {
-      at_bound = few;
-      at_in_bounds = its_row;
-      atom_ready = this_ready;
-    }
-
-pub loop-at-preserved-then-not-is_due : goal.loop-at-preserved-then-not-is_due
-loop-at-preserved-then-not-is_due c =
-    let its_place : c.loop-at.at < (c.before.before.before.before.before.before.before.before.before.before.before.before.before.before.before).args.count = c.loop-at-test.true in
-    let on : c.loop-at.at + 1 ≤ (c.before.before.before.before.before.before.before.before.before.before.before.before.before.before.before).args.count = omega (arith, its_place) in
-    let past : (Due (c.before.before.before.before.before.before.before.before.before.before.before.before.before.before.before).args.lengths c.args.atoms.now (c.before.before.before.before.before.before.before.before.before.before.before.before.before.before.before).args.holds c.loop-at.values c.loop-at.at → ⊥) → Sweeps (Outside c.args.lengths) (c.before.before.before.before.before.before.before.before.before.before.before.before.before.before.before).args.edges.now c.args.atoms.now (c.before.before.before.before.before.before.before.before.before.before.before.before.before.before.before).args.holds c.args.values.now c.loop-at.values (c.loop-at.at + 1) c.loop-at.step = λ n. let b = (c.before.before.before.before.before.before.before.before.before.before.before.before.before.before.before).args in sweep_past (Outside c.args.lengths) b.holds c.args.values.now c.loop-at.values c.loop-at.at (c.loop-at.at + 1) c.loop-at.step (without_more (Due b.lengths c.args.atoms.now b.holds c.loop-at.values) (without_none _ _) n) c.loop-at.invariant.3 in
-    let i = c.loop-at.invariant in
-    (on, i.1, i.2, past (λ d. not_so {r = c.is_due.result} refl c.if-not-is_due.true (c.is_due.ensures.1 d)))
-
-pub walk-requires-then-atom-source : goal.walk-requires-then-atom-source
-walk-requires-then-atom-source c =
-    let from_is : c.atom_at-atom.result.from ≡ (atom (atoms_of c.args.atoms.now) c.loop-at.at).from = ap (λ (A : Atom). A.from) c.atom_at-atom.ensures in
-    let so_far : Onward c.requires.ready.file c.args.values.now c.loop-at.values = (c.loop-at.invariant.3 c.requires.ready.file c.requires.ready.has).onward in
-    let ready : Ready c.args.edges.now c.args.atoms.now c.args.count c.loop-at.values = ready_on c.requires.ready so_far.shape in
-    let its_place : c.loop-at.at < (c.before.before.before.before.before.before.before.before.before.before.before.before.before.before.before).args.count = c.loop-at-test.true in
-    let this_ready : AtomReady c.loop-at.values (atom (atoms_of c.args.atoms.now) c.loop-at.at) = (ready_atoms ready).each c.loop-at.at its_place in
-    record {
-      source_bound = omega (arith, c.wide-then-atom-source.ensures, from_is, (this_ready).fits.from_in);
-      room = c.loop-at.invariant.1.room;
-    }
-
--- the distances from its source
-walked_as : (sets : List ℕ) (s t : ℕ) (d e : List ℕ) → s ≡ t → d ≡ e → Walked sets t e → Walked sets s d
-walked_as sets s t d e p q w = rw (p, q) w
-
--- the look at it
-module _ (c : goal.In-Clash) where
-  abbrev its : goal.At-loop-at
-  its = c.before.before.before.before.before.before.before
-
-  abbrev after : List ℤ
-  after = c.look_at-told.new.values
-
-  swept : (z : Step) → and_then its.loop.step c.look_at-told.result ≡ z
-      → Sweeps (hops (found (sets its))) (begun its).args.edges.now (table its) (begun its).args.holds (given (found (sets its))) after (its.loop.at + 1) z
-  swept z e =
-      let its_place : c.loop-at.at < (c.before.before.before.before.before.before.before.before.before.before.before.before.before.before.before).args.count = c.loop-at-test.true in
-      let in_hops : (Outside c.args.lengths) c.loop-at.at → measure_of (atom (atoms_of c.args.atoms.now) c.loop-at.at).kind ≡ Hops = by_hops c.loop-at.at (c.before.before.before.before.before.before.before.before.before.before.before.before.before.before.before).pre.1 its_place in
-      let walked : Walked c.neighbours-sets.result c.if-atom-source.source c.if-atom-source.distances = let n = c.neighbours-sets.result in ⊎_elim (λ w. walked_as n _ _ _ _ (w.8 ∙ sym w.5.ensures) w.9 w.7.ensures) (λ w. walked_as n _ _ _ _ w.1 w.2 c.loop-at.invariant.1) c.if-atom-source.branch in
-      let from_is : c.atom_at-atom.result.from ≡ (atom (atoms_of c.args.atoms.now) c.loop-at.at).from = ap (λ (A : Atom). A.from) c.atom_at-atom.ensures in
-      let source_is : c.if-atom-source.source ≡ (atom (atoms_of c.args.atoms.now) c.loop-at.at).from = ⊎_elim (λ w. w.8 ∙ from_is) (λ w. w.1 ∙ sym w.0.left ∙ from_is) c.if-atom-source.branch in
-      let n = sets its in
-      let b = begun its in
-      let d = c.if-atom-source.distances in
-      let r = c.look_at-told.result in
-      subst (λ z. Sweeps (hops (found n)) b.args.edges.now (table its) b.args.holds (given (found n)) after (its.loop.at + 1) z) e
-      (sweep_one (hops (found n)) b.args.holds (given (found n)) its.loop.values after b.args.count its.loop.at d its.loop.step r b.pre.0.long its_place
-      (λ q. settles_by b.args.holds (given (found n)) n.settling_side.result n.neighbours.result (atom (atoms_of c.args.atoms.now) c.loop-at.at) c.if-atom-source.source d
-      n.settling_side.ensures (in_hops q) (ready_inside b.pre.0) n.neighbours.ensures walked source_is)
-      (subst (λ A. Told (hops (found n) its.loop.at) b.args.holds A d its.loop.values after r) c.atom_at-atom.ensures c.look_at-told.ensures) its.loop.inv.3)
-
-  kept : Onward (begun its).pre.0.file (given (found (sets its))) after
-  kept = (swept _ refl (begun its).pre.0.file (begun its).pre.0.has).onward
-
-pub returns-in-Clash : goal.returns-in-Clash
-returns-in-Clash c =
-    λ φ f.
-    looks_clash φ (given (found (sets (its c)))) (after c) Clash tt (swept c Clash (then_clash (its c).loop.step _ c.in-Clash.is) φ f)
-
-pub loop-at-preserved-in-Set : goal.loop-at-preserved-in-Set
-loop-at-preserved-in-Set c =
-    let its_place : c.loop-at.at < (c.before.before.before.before.before.before.before.before.before.before.before.before.before.before.before).args.count = c.loop-at-test.true in
-    let on : c.loop-at.at + 1 ≤ (c.before.before.before.before.before.before.before.before.before.before.before.before.before.before.before).args.count = omega (arith, its_place) in
-    let walked : Walked c.neighbours-sets.result c.if-atom-source.source c.if-atom-source.distances = let n = c.neighbours-sets.result in ⊎_elim (λ w. walked_as n _ _ _ _ (w.8 ∙ sym w.5.ensures) w.9 w.7.ensures) (λ w. walked_as n _ _ _ _ w.1 w.2 c.loop-at.invariant.1) c.if-atom-source.branch in
-    let in_hops : (Outside c.args.lengths) c.loop-at.at → measure_of (atom (atoms_of c.args.atoms.now) c.loop-at.at).kind ≡ Hops = by_hops c.loop-at.at (c.before.before.before.before.before.before.before.before.before.before.before.before.before.before.before).pre.1 its_place in
-    let from_is : c.atom_at-atom.result.from ≡ (atom (atoms_of c.args.atoms.now) c.loop-at.at).from = ap (λ (A : Atom). A.from) c.atom_at-atom.ensures in
-    let source_is : c.if-atom-source.source ≡ (atom (atoms_of c.args.atoms.now) c.loop-at.at).from = ⊎_elim (λ w. w.8 ∙ from_is) (λ w. w.1 ∙ sym w.0.left ∙ from_is) c.if-atom-source.branch in
-    let swept : (z : Step) → and_then c.loop-at.step c.look_at-told.result ≡ z → Sweeps (hops (found (sets c.before.before.before.before.before.before.before))) (begun c.before.before.before.before.before.before.before).args.edges.now (table c.before.before.before.before.before.before.before) (begun c.before.before.before.before.before.before.before).args.holds (given (found (sets c.before.before.before.before.before.before.before))) c.look_at-told.new.values (c.loop-at.at + 1) z = λ z e. let n = sets c.before.before.before.before.before.before.before in let b = begun c.before.before.before.before.before.before.before in let d = c.if-atom-source.distances in let r = c.look_at-told.result in subst (λ z. Sweeps (hops (found n)) b.args.edges.now (table c.before.before.before.before.before.before.before) b.args.holds (given (found n)) c.look_at-told.new.values (c.loop-at.at + 1) z) e (sweep_one (hops (found n)) b.args.holds (given (found n)) c.loop-at.values c.look_at-told.new.values b.args.count c.loop-at.at d c.loop-at.step r b.pre.0.long its_place (λ q. settles_by b.args.holds (given (found n)) n.settling_side.result n.neighbours.result (atom (atoms_of c.args.atoms.now) c.loop-at.at) c.if-atom-source.source d n.settling_side.ensures (in_hops q) (ready_inside b.pre.0) n.neighbours.ensures walked source_is) (subst (λ A. Told (hops (found n) c.loop-at.at) b.args.holds A d c.loop-at.values c.look_at-told.new.values r) c.atom_at-atom.ensures c.look_at-told.ensures) c.loop-at.invariant.3) in
-    (on, walked, (λ t. t), swept Set (then_set (c.before.before.before.before.before.before.before).loop.step _ (c.before.before.before.before.before.before.before).loop.invariant.2 c.in-Set.is))
-
-pub loop-at-preserved : goal.loop-at-preserved
-loop-at-preserved c =
-    let its_place : c.loop-at.at < (c.before.before.before.before.before.before.before.before.before.before.before.before.before.before.before).args.count = c.loop-at-test.true in
-    let on : c.loop-at.at + 1 ≤ (c.before.before.before.before.before.before.before.before.before.before.before.before.before.before.before).args.count = omega (arith, its_place) in
-    let walked : Walked c.neighbours-sets.result c.if-atom-source.source c.if-atom-source.distances = let n = c.neighbours-sets.result in ⊎_elim (λ w. walked_as n _ _ _ _ (w.8 ∙ sym w.5.ensures) w.9 w.7.ensures) (λ w. walked_as n _ _ _ _ w.1 w.2 c.loop-at.invariant.1) c.if-atom-source.branch in
-    let in_hops : (Outside c.args.lengths) c.loop-at.at → measure_of (atom (atoms_of c.args.atoms.now) c.loop-at.at).kind ≡ Hops = by_hops c.loop-at.at (c.before.before.before.before.before.before.before.before.before.before.before.before.before.before.before).pre.1 its_place in
-    let from_is : c.atom_at-atom.result.from ≡ (atom (atoms_of c.args.atoms.now) c.loop-at.at).from = ap (λ (A : Atom). A.from) c.atom_at-atom.ensures in
-    let source_is : c.if-atom-source.source ≡ (atom (atoms_of c.args.atoms.now) c.loop-at.at).from = ⊎_elim (λ w. w.8 ∙ from_is) (λ w. w.1 ∙ sym w.0.left ∙ from_is) c.if-atom-source.branch in
-    let swept : (z : Step) → and_then c.loop-at.step c.look_at-told.result ≡ z → Sweeps (hops (found (sets c.before.before.before.before.before.before.before))) (begun c.before.before.before.before.before.before.before).args.edges.now (table c.before.before.before.before.before.before.before) (begun c.before.before.before.before.before.before.before).args.holds (given (found (sets c.before.before.before.before.before.before.before))) c.look_at-told.new.values (c.loop-at.at + 1) z = λ z e. let n = sets c.before.before.before.before.before.before.before in let b = begun c.before.before.before.before.before.before.before in let d = c.if-atom-source.distances in let r = c.look_at-told.result in subst (λ z. Sweeps (hops (found n)) b.args.edges.now (table c.before.before.before.before.before.before.before) b.args.holds (given (found n)) c.look_at-told.new.values (c.loop-at.at + 1) z) e (sweep_one (hops (found n)) b.args.holds (given (found n)) c.loop-at.values c.look_at-told.new.values b.args.count c.loop-at.at d c.loop-at.step r b.pre.0.long its_place (λ q. settles_by b.args.holds (given (found n)) n.settling_side.result n.neighbours.result (atom (atoms_of c.args.atoms.now) c.loop-at.at) c.if-atom-source.source d n.settling_side.ensures (in_hops q) (ready_inside b.pre.0) n.neighbours.ensures walked source_is) (subst (λ A. Told (hops (found n) c.loop-at.at) b.args.holds A d c.loop-at.values c.look_at-told.new.values r) c.atom_at-atom.ensures c.look_at-told.ensures) c.loop-at.invariant.3) in
-    (on, walked, (c.before.before.before.before.before.before.before).loop.invariant.2, swept (c.before.before.before.before.before.before.before).loop.step (then_still (c.before.before.before.before.before.before.before).loop.step _ c.in-Still.is))
-
-pub returns : goal.returns
-returns c =
-    let b = begun c in
-    sweep_end (Outside c.args.lengths) b.args.holds c.args.values.now c.loop-at.values b.args.count c.loop-at.at c.loop-at.step b.pre.0.long c.loop-at-test.false c.loop-at.invariant.3
-
-pub shape_of-values-in-Clash : goal.shape_of-values-in-Clash
-shape_of-values-in-Clash c = (kept c).shape.long ∙ sym (begun (its c)).pre.0.has.shape.long
-
-pub shape_of-values : goal.shape_of-values
-shape_of-values c = (so_far c).shape.long ∙ sym (begun c).pre.0.has.shape.long
-
-pub overflow_add-at : goal.overflow_add-at
-overflow_add-at c = let h = its_place c in let f = (c.before.before.before.before.before.before.before.before.before.before.before.before.before.before.before).fits.count in search rules
+-- its source
+same_source : {A B : Atom} → A ≡ B → A.from ≡ B.from
+same_source q = ap (λ (A : Atom). A.from) q
 
 pub next_to_say-at-requires : goal.next_to_say-at-requires
 next_to_say-at-requires c = record {
@@ -250,36 +48,126 @@ next_to_say-at-requires c = record {
       k_le_count = omega arith;
     }
 
-pub atom_at-atom-requires : goal.atom_at-atom-requires
-atom_at-atom-requires c = omega (arith, (c.before.before.before.before.before.before.before.before.before.before.before.before.before.before.before).pre.0.long, c.loop-at-test.true)
+pub returns-then-at-count : goal.returns-then-at-count
+returns-then-at-count c =
+    let a = c.args in
+    let v = a.values.now in
+    sweep_end (Outside a.lengths) a.holds v v a.count c.next_to_say-at.result Still c.requires.ready.long (omega (arith, c.if-at-count.true)) (start a.edges.now a.lengths a.holds c.next_to_say-at.ensures)
 
-pub loop-at-smaller-then-not-is_due : goal.loop-at-smaller-then-not-is_due
-loop-at-smaller-then-not-is_due c =
-    let its_place : c.loop-at.at < (c.before.before.before.before.before.before.before.before.before.before.before.before.before.before.before).args.count = c.loop-at-test.true in
-    let less : (c.before.before.before.before.before.before.before.before.before.before.before.before.before.before.before).args.count - (c.loop-at.at + 1) < (c.before.before.before.before.before.before.before.before.before.before.before.before.before.before.before).args.count - c.loop-at.at = omega (arith, its_place) in
-    less
+pub neighbours-sets-requires : goal.neighbours-sets-requires
+neighbours-sets-requires c = record { inside = ready_inside c.requires.ready; placed = ready_placed c.requires.ready }
+
+-- the neighbour sets are there, and so is an atom
+pub walk-requires : goal.walk-requires
+walk-requires c =
+    let h : c.next_to_say-at.result < c.args.count = omega (arith, c.next_to_say-at.ensures.inside, c.if-at-count.false) in
+    let r = (ready_atoms c.requires.ready).each c.next_to_say-at.result h in
+    record { source_bound = omega (arith, c.wide.ensures, same_source c.atom_at-first.ensures, r.fits.from_in); room = c.blank-distances.ensures }
+
+pub loop-at-init : goal.loop-at-init
+loop-at-init c = (c.next_to_say-at.ensures.inside, rw c.wide.ensures at c.walk.ensures, (λ t. t), start c.args.edges.now c.args.lengths c.args.holds c.next_to_say-at.ensures)
+
+-- a turn of the loop, for its atom
+pub is_due-requires : goal.is_due-requires
+is_due-requires c =
+    let h = c.loop-at-test.true in
+    record {
+      at_bound = omega (arith, c.requires.count_lengths.few, h);
+      at_in_bounds = omega (arith, c.requires.ready.long, h);
+      atom_ready = ready_at (Outside c.args.lengths) _ c.args.holds c.loop-at.step c.requires.ready c.loop-at.invariant.3 c.loop-at.at h;
+    }
+
+-- it is passed by where it is not due
+pub loop-at-preserved-then-not-is_due : goal.loop-at-preserved-then-not-is_due
+loop-at-preserved-then-not-is_due c =
+    let a = c.args in
+    let l = c.loop-at in
+    let i = l.invariant in
+    let n : Due a.lengths a.atoms.now a.holds l.values l.at → ⊥ = λ d. not_so {r = c.is_due.result} refl c.if-not-is_due.true (c.is_due.ensures.1 d) in
+    (
+      omega (arith, c.loop-at-test.true),
+      i.1,
+      i.2,
+      sweep_past (Outside a.lengths) a.holds a.values.now l.values l.at (l.at + 1) l.step (without_more (Due a.lengths a.atoms.now a.holds l.values) (without_none _ _) n) i.3,
+    )
+
+pub walk-requires-then-atom-source : goal.walk-requires-then-atom-source
+walk-requires-then-atom-source c =
+    let r = ready_at (Outside c.args.lengths) _ c.args.holds c.loop-at.step c.requires.ready c.loop-at.invariant.3 c.loop-at.at c.loop-at-test.true in
+    record {
+      source_bound = omega (arith, c.wide-then-atom-source.ensures, same_source c.atom_at-atom.ensures, r.fits.from_in);
+      room = c.loop-at.invariant.1.room;
+    }
 
 pub look_at-told-requires : goal.look_at-told-requires
 look_at-told-requires c =
-    let its_place : c.loop-at.at < (c.before.before.before.before.before.before.before.before.before.before.before.before.before.before.before).args.count = c.loop-at-test.true in
-    let few : c.loop-at.at < 64 = omega (arith, (c.before.before.before.before.before.before.before.before.before.before.before.before.before.before.before).pre.1.few, its_place) in
-    let so_far : Onward c.requires.ready.file c.args.values.now c.loop-at.values = (c.loop-at.invariant.3 c.requires.ready.file c.requires.ready.has).onward in
-    let ready : Ready c.args.edges.now c.args.atoms.now c.args.count c.loop-at.values = ready_on c.requires.ready so_far.shape in
-    let this_ready : AtomReady c.loop-at.values (atom (atoms_of c.args.atoms.now) c.loop-at.at) = (ready_atoms ready).each c.loop-at.at its_place in
-    let atom_ready : AtomReady c.loop-at.values (atom_of c.atom_at-atom.result) = subst (AtomReady c.loop-at.values) (sym c.atom_at-atom.ensures) this_ready in
+    let h = c.loop-at-test.true in
     record {
-      at_bound = few;
-      atom_ready = atom_ready;
+      at_bound = omega (arith, c.requires.count_lengths.few, h);
+      atom_ready = subst (AtomReady c.loop-at.values) (sym c.atom_at-atom.ensures) (ready_at (Outside c.args.lengths) _ c.args.holds c.loop-at.step c.requires.ready c.loop-at.invariant.3 c.loop-at.at h);
     }
 
-pub loop-at-smaller-in-Set : goal.loop-at-smaller-in-Set
-loop-at-smaller-in-Set c =
-    let its_place : c.loop-at.at < (c.before.before.before.before.before.before.before.before.before.before.before.before.before.before.before).args.count = c.loop-at-test.true in
-    let less : (c.before.before.before.before.before.before.before.before.before.before.before.before.before.before.before).args.count - (c.loop-at.at + 1) < (c.before.before.before.before.before.before.before.before.before.before.before.before.before.before.before).args.count - c.loop-at.at = omega (arith, its_place) in
-    less
+-- the distances are those from its source, walked anew or kept
+walked_as : (sets : List ℕ) {s t g : ℕ} {d e : List ℕ} → s ≡ t → d ≡ e → Walked sets t e → t ≡ g → Walked sets s d × (s ≡ g)
+walked_as sets p q w f = (rw (p, q) w, p ∙ f)
 
-pub loop-at-smaller : goal.loop-at-smaller
-loop-at-smaller c =
-    let its_place : c.loop-at.at < (c.before.before.before.before.before.before.before.before.before.before.before.before.before.before.before).args.count = c.loop-at-test.true in
-    let less : (c.before.before.before.before.before.before.before.before.before.before.before.before.before.before.before).args.count - (c.loop-at.at + 1) < (c.before.before.before.before.before.before.before.before.before.before.before.before.before.before.before).args.count - c.loop-at.at = omega (arith, its_place) in
-    less
+-- the look at it
+swept : {es bs : List ℕ} {count : ℕ} {v : List ℤ} → Ready es bs count v → (lengths : ℕ) (b : Bool) (w u : List ℤ) (at : ℕ) (side : Side) (sets d : List ℕ) (source : ℕ) (a r z : Step)
+    → CountLengths (atoms_of bs) count lengths → at < count → ((kind : Kind) → side ≡ settling kind b) → Neighbours (edges_of es) (graph_of side (true_in v)) sets
+    → Walked sets source d × (source ≡ (atom (atoms_of bs) at).from) → {A : Atom} → A ≡ atom (atoms_of bs) at → Told (Outside lengths at) b A d w u r
+    → Sweeps (Outside lengths) es bs b v w at a → and_then a r ≡ z → Sweeps (Outside lengths) es bs b v u (at + 1) z
+swept {es} {bs} {count} {v} x lengths b w u at side sets d source a r z n h s k y q t i e =
+    let Q : ℕ → Type 0 = Outside lengths in
+    subst (λ z. Sweeps Q es bs b v u (at + 1) z) e
+    (sweep_one Q b v w u count at d a r x.long h
+    (λ o. settles_by b v side sets (atom (atoms_of bs) at) source d s (by_hops at n h o) (ready_inside x) k y.0 y.1)
+    (subst (λ A. Told (Q at) b A d w u r) q t) i)
+
+pub returns-in-Clash : goal.returns-in-Clash
+returns-in-Clash c =
+    let t = c.look_at-told in
+    let l = c.loop-at in
+    let known : Walked c.neighbours-sets.result c.if-atom-source.source c.if-atom-source.distances × (c.if-atom-source.source ≡ (atom (atoms_of c.args.atoms.now) c.loop-at.at).from) =
+        let q = same_source c.atom_at-atom.ensures in
+        elim c.if-atom-source.branch [
+          | then-atom-source+else-not-is_due w ↦ let e = w.wide-then-atom-source.ensures in walked_as _ (w.source-is ∙ sym e) w.distances-is w.walk-then-atom-source.ensures (e ∙ q)
+          | else-atom-source w ↦ walked_as _ w.source-is w.distances-is c.loop-at.invariant.1 (sym w.if-atom-source.false ∙ q)
+        ] in
+    λ φ f.
+    looks_clash φ c.args.values.now t.new.values Clash tt
+    (swept c.requires.ready c.args.lengths c.args.holds l.values t.new.values l.at _ _ _ _ l.step t.result Clash c.requires.count_lengths c.loop-at-test.true c.settling_side.ensures
+    c.neighbours-sets.ensures known c.atom_at-atom.ensures t.ensures l.invariant.3 (then_clash l.step _ c.in-Clash.is) φ f)
+
+pub loop-at-preserved-in-Set : goal.loop-at-preserved-in-Set
+loop-at-preserved-in-Set c =
+    let t = c.look_at-told in
+    let l = c.loop-at in
+    let known : Walked c.neighbours-sets.result c.if-atom-source.source c.if-atom-source.distances × (c.if-atom-source.source ≡ (atom (atoms_of c.args.atoms.now) c.loop-at.at).from) =
+        let q = same_source c.atom_at-atom.ensures in
+        elim c.if-atom-source.branch [
+          | then-atom-source+else-not-is_due w ↦ let e = w.wide-then-atom-source.ensures in walked_as _ (w.source-is ∙ sym e) w.distances-is w.walk-then-atom-source.ensures (e ∙ q)
+          | else-atom-source w ↦ walked_as _ w.source-is w.distances-is c.loop-at.invariant.1 (sym w.if-atom-source.false ∙ q)
+        ] in
+    (omega (arith, c.loop-at-test.true), known.0, (λ t. t),
+    swept c.requires.ready c.args.lengths c.args.holds l.values t.new.values l.at _ _ _ _ l.step t.result Set c.requires.count_lengths c.loop-at-test.true c.settling_side.ensures
+    c.neighbours-sets.ensures known c.atom_at-atom.ensures t.ensures l.invariant.3 (then_set l.step _ l.invariant.2 c.in-Set.is))
+
+pub loop-at-preserved : goal.loop-at-preserved
+loop-at-preserved c =
+    let t = c.look_at-told in
+    let l = c.loop-at in
+    let known : Walked c.neighbours-sets.result c.if-atom-source.source c.if-atom-source.distances × (c.if-atom-source.source ≡ (atom (atoms_of c.args.atoms.now) c.loop-at.at).from) =
+        let q = same_source c.atom_at-atom.ensures in
+        elim c.if-atom-source.branch [
+          | then-atom-source+else-not-is_due w ↦ let e = w.wide-then-atom-source.ensures in walked_as _ (w.source-is ∙ sym e) w.distances-is w.walk-then-atom-source.ensures (e ∙ q)
+          | else-atom-source w ↦ walked_as _ w.source-is w.distances-is c.loop-at.invariant.1 (sym w.if-atom-source.false ∙ q)
+        ] in
+    (omega (arith, c.loop-at-test.true), known.0, l.invariant.2,
+    swept c.requires.ready c.args.lengths c.args.holds l.values t.new.values l.at _ _ _ _ l.step t.result l.step c.requires.count_lengths c.loop-at-test.true c.settling_side.ensures
+    c.neighbours-sets.ensures known c.atom_at-atom.ensures t.ensures l.invariant.3 (then_still l.step _ c.in-Still.is))
+
+pub returns : goal.returns
+returns c =
+    let a = c.args in
+    let l = c.loop-at in
+    sweep_end (Outside a.lengths) a.holds a.values.now l.values a.count l.at l.step c.requires.ready.long c.loop-at-test.false l.invariant.3

@@ -11,6 +11,7 @@ use Rattle.walk.proofs.Truths.{so, not_so}
 use Rattle.closing.specs.Atoms.{AtomReady, Unsaid}
 use Rattle.closing.proofs.Looking.{same_literal}
 use Rattle.closing.proofs.to_say.Goals as goal
+use Rattle.closing.proofs.to_say.Goals.{then-not-is_set_to, else-not-is_set_to}
 
 pub loop-rest-init : goal.loop-rest-init
 loop-rest-init c = (left_all _ c.ranges.set.fits, chosen_none _ _)
@@ -61,7 +62,10 @@ loop-rest-preserved c =
     let is = c.is_set_to.ensures ∙ same_literal a.values.now a.holds _ _ c.atom_at-atom.ensures in (
       left_less l.0 (less_first _ l.0.fits c.loop-rest-test.true),
       chosen_lowest _ _ _ _ l.0 l.1 _ c.loop-rest-test.true
-          (⊎_elim (λ w. inl (not_so is (not-true _ w.0.taken), w.1)) (λ w. inr ((λ n. n (so is (not-false _ w.0.left))), w.1)) c.if-not-is_set_to.branch),
+          (elim c.if-not-is_set_to.branch [
+            | then-not-is_set_to w ↦ inl (not_so is w.if-not-is_set_to.true, w.those-is)
+            | else-not-is_set_to w ↦ inr ((λ n. n (so is w.if-not-is_set_to.false)), w.those-is)
+          ]),
     )
 
 pub returns : goal.returns
