@@ -1,5 +1,4 @@
 -- `closing::close`: an index of the clauses, and nothing known of the assignment.
-use borrow.Author.Rules.{rules}
 use Rattle.unit.proofs.Following.{known_nothing}
 use Rattle.closing.proofs.Lending.{lent_indexable}
 use Rattle.walk.proofs.Lending.{lent_few}

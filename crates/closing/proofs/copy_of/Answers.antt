@@ -1,7 +1,6 @@
 -- `closing::copy_of`: the copy stands at the front of an array that is long enough.
 use mathlib.Core.Path.{◌≡◌, sym, ap, ◌∙◌}
 use native.Mathlib.Omega.{arith}
-use borrow.Author.Rules.{rules}
 use lib.IntN.{pos}
 use lib.ListN.{length, get_or, get_or-append}
 use lib.Seq.{length-take-le}

@@ -4,7 +4,6 @@ use mir.Facts.{to_z-of_z}
 use Rattle.plan.specs.Meaning.{add}
 use Rattle.plan.specs.Tables.{literal_value}
 use Rattle.plan.proofs.Literals.{bits_true, bits_false, true_bits, false_bits}
-use borrow.Author.Rules.{rules}
 use Rattle.closing.proofs.give.Goals as goal
 
 -- the literal's value
@@ -22,8 +21,7 @@ returns-then-value c =
 
 pub returns : goal.returns
 returns c =
-    let value_is : c.value_of-value.result ≡ literal_value c.args.values.now c.args.literal = c.value_of-value.ensures ∙ ap (literal_value c.args.values.now) (to_z-of_z c.ranges.literal) in
-    (
+    let value_is : c.value_of-value.result ≡ literal_value c.args.values.now c.args.literal = c.value_of-value.ensures ∙ ap (literal_value c.args.values.now) (to_z-of_z c.ranges.literal) in (
       c.put.ensures ∙ ap (add c.args.values.now) (to_z-of_z c.ranges.literal),
       (λ t. c.if-value-eq1.false (true_bits c.args.values.now c.args.literal _ c.requires.assigned c.requires.literal_fits value_is t)),
       (λ t. c.if-value.false (false_bits c.args.values.now c.args.literal _ c.requires.assigned c.requires.literal_fits value_is t)),

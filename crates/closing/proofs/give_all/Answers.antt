@@ -2,7 +2,7 @@
 use mathlib.Core.Path.{◌≡◌, sym, ap, ◌∙◌, subst}
 use mathlib.Core.Bool.{Bool}
 use mathlib.Core.List.{List}
-use Prim.Native.Nat.{ℕ, ◌*◌, ◌-◌, ◌<◌}
+use Prim.Native.Nat.{ℕ, ◌-◌, ◌<◌}
 use native.Mathlib.Omega.{arith}
 use borrow.Author.Rules.{rules}
 use lib.Bits.{bit_and}
@@ -18,13 +18,13 @@ use Rattle.plan.specs.Ranged.{LiteralFits}
 use Rattle.plan.specs.Search.{Assigned}
 use Rattle.plan.specs.Tables.{atoms_of}
 use Rattle.walk.proofs.Sets.{Taken, taken}
-use Rattle.walk.proofs.Picking.{less_first, Left, left_all, left_less}
+use Rattle.walk.proofs.Picking.{less_first, Left, left_less}
 use Rattle.closing.specs.Closed.{is_clash, and_then}
 use Rattle.closing.specs.Atoms.{AtomReady, Ready, In, Gets}
 use Rattle.closing.specs.declared.Step.{Step}
 use Rattle.closing.specs.declared.Step.TheVariants.{Clash}
-use Rattle.closing.proofs.Looking.{literal_fits, ready_on, ready_shape, ready_atoms, gets_shape, then_clash, then_set, then_still, looks_clash}
-use Rattle.closing.proofs.Giving.{GivenTo, given_none, given_one, given_all}
+use Rattle.closing.proofs.Looking.{literal_fits, ready_on, ready_atoms, gets_shape, then_clash, then_set, then_still, looks_clash}
+use Rattle.closing.proofs.Giving.{GivenTo, given_one, given_all}
 use Rattle.closing.proofs.give_all.Goals as goal
 use Rattle.closing.proofs.give_all.Goals.{in-Set, in-Still}
 
@@ -98,10 +98,10 @@ loop-rest-preserved c =
     let i = c.requires.by_index _ n in
     let g = rw (literal_is c.args.holds _ _ c.given.result (search rules) c.given.ensures c.atom_at-atom.ensures) at c.give-told.ensures in
     let stepped : (c.match-told.step ≡ and_then l.step c.give-told.result) × (T (is_clash c.match-told.step) → ⊥) =
-        elim c.match-told.branch [
-          | in-Set w ↦ (w.step-is ∙ sym (then_set l.step _ l.invariant.2 w.in-Set.is), λ x. subst (λ z. T (is_clash z)) w.step-is x)
-          | in-Still w ↦ (w.step-is ∙ sym (then_still l.step _ w.in-Still.is), λ x. l.invariant.2 (subst (λ z. T (is_clash z)) w.step-is x))
-        ] in (
+    elim c.match-told.branch [
+      | in-Set w ↦ (w.step-is ∙ sym (then_set l.step _ l.invariant.2 w.in-Set.is), λ x. subst (λ z. T (is_clash z)) w.step-is x)
+      | in-Still w ↦ (w.step-is ∙ sym (then_still l.step _ w.in-Still.is), λ x. l.invariant.2 (subst (λ z. T (is_clash z)) w.step-is x))
+    ] in (
       left_less l.invariant.0 (less_first _ l.invariant.0.fits c.loop-rest-test.true),
       shape _ c.args.holds _ c.requires.ready i g l.invariant.1,
       stepped.1,

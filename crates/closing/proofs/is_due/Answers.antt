@@ -1,6 +1,5 @@
 -- `closing::is_due`: an atom whose literal is there is not due; another one is exactly if it is not one of the others.
 use mathlib.Core.Path.{◌≡◌, sym, ◌∙◌, subst}
-use borrow.Author.Rules.{rules}
 use lib.Dec.{T, T_not, not_T}
 use Rattle.plan.specs.Meaning.{atom, literal_of, true_in}
 use Rattle.plan.specs.Tables.{atoms_of}
@@ -27,8 +26,7 @@ returns-then-is_set_to c = ((λ t. absurd t), (λ d. d.1 (so (said c) c.if-is_se
 
 pub returns : goal.returns
 returns c =
-    let said : c.is_set_to.result ≡ true_in c.args.values.now (literal_of c.args.holds (atom (atoms_of c.args.atoms.now) c.args.at).variable) = c.is_set_to.ensures ∙ same_literal c.args.values.now c.args.holds _ _ c.atom_at-atom.ensures in
-    (
+    let said : c.is_set_to.result ≡ true_in c.args.values.now (literal_of c.args.holds (atom (atoms_of c.args.atoms.now) c.args.at).variable) = c.is_set_to.ensures ∙ same_literal c.args.values.now c.args.holds _ _ c.atom_at-atom.ensures in (
       (λ t. ((λ i. T_not c.has.result t (subst (λ b. T b) (sym c.has.ensures) i)), (λ u. not_so said c.if-is_set_to.false u))),
       (λ d. not_T c.has.result (λ u. d.0 (subst (λ b. T b) c.has.ensures u))),
     )

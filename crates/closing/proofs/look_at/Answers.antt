@@ -1,24 +1,20 @@
 -- `closing::look_at`: where the atom's truth is the verdict that is asked for, it is settled and, if it is not one of the others, gives its literal; else it says nothing.
 use mathlib.Core.Path.{◌≡◌, refl, ◌∙◌, subst}
-use mathlib.Core.Logic.{◌↔◌}
 use mathlib.Core.Bool.{Bool, beq}
 use mathlib.Core.List.{List}
 use Prim.Native.Nat.{ℕ}
 use borrow.Author.Rules.{rules}
 use borrow.Author.Tests.{not-true, not-false}
 use lib.IntN.{ℤ}
-use lib.ListN.{length}
-use lib.Dec.{T}
 use mir.Syntax.{w16}
 use mir.Val.{SFits, of_z, to_z}
 use mir.Facts.{to_z-of_z}
 use Rattle.plan.specs.Meaning.{Atom, PlanFile, literal_of, true_in}
 use Rattle.plan.specs.Closing.{Settles}
-use Rattle.plan.specs.Ranged.{LiteralFits}
 use Rattle.plan.specs.Tables.{atom_of}
 use Rattle.walk.specs.Walking.{Settling}
 use Rattle.walk.proofs.Truths.{so, not_so}
-use Rattle.closing.specs.Atoms.{Outside, Gets, Told}
+use Rattle.closing.specs.Atoms.{Gets, Told}
 use Rattle.closing.specs.declared.Step.TheVariants.{Still}
 use Rattle.closing.proofs.Looking.{literal_fits, verdict, looks_silent, looks_gets, looks_so}
 use Rattle.closing.proofs.look_at.Goals as goal

@@ -1,7 +1,6 @@
 -- `closing::look_at_lengths`: one verdict behind the other.
 use mathlib.Core.Path.{sym, subst}
 use mathlib.Core.List.{List}
-use borrow.Author.Rules.{rules}
 use lib.IntN.{ℤ}
 use Rattle.unit.specs.Onward.{Onward}
 use Rattle.walk.proofs.Truths.{so}

@@ -1,6 +1,6 @@
 -- `closing::look_by_length`: of the atoms whose literal is not there, those give it that the walks settle as asked.
 use mathlib.Core.Path.{◌≡◌, sym, ap, ◌∙◌, subst}
-use mathlib.Core.Bool.{Bool, true, false}
+use mathlib.Core.Bool.{Bool}
 use mathlib.Core.List.{List}
 use Prim.Native.Nat.{ℕ, ◌^◌, ◌<◌}
 use borrow.Author.Rules.{rules}
@@ -11,9 +11,9 @@ use Rattle.plan.specs.Tables.{edges_of, atoms_of}
 use Rattle.plan.specs.declared.Kind.{Kind}
 use Rattle.plan.specs.declared.Side.{Side}
 use Rattle.plan.proofs.Tables.{atoms_length}
-use Rattle.walk.specs.Walking.{Those, CountLengths, LengthAtoms}
+use Rattle.walk.specs.Walking.{Those}
 use Rattle.walk.proofs.Asked.{asked_part, all_asked}
-use Rattle.closing.specs.Atoms.{HasTables, Ready, Unsaid}
+use Rattle.closing.specs.Atoms.{HasTables}
 use Rattle.closing.proofs.Looking.{ready_atoms, ready_ends, ready_inside, ready_placed, ready_few}
 use Rattle.closing.proofs.Giving.{told_of, told_settled, looks_given}
 use Rattle.closing.proofs.look_by_length.Goals as goal
@@ -48,9 +48,9 @@ give_all-requires c =
     let n = c.to_say-asked.result in
     let t = c.true_by_length-truths.result in
     let e : c.if-holds.told ≡ told_of a.holds n t = elim c.if-holds.branch [
-          | then-holds w ↦ w.told-is ∙ ap (λ b. told_of b n t) (sym w.if-holds.true)
-          | else-holds w ↦ w.told-is ∙ ap (λ b. told_of b n t) (sym w.if-holds.false)
-        ] in
+      | then-holds w ↦ w.told-is ∙ ap (λ b. told_of b n t) (sym w.if-holds.true)
+      | else-holds w ↦ w.told-is ∙ ap (λ b. told_of b n t) (sym w.if-holds.false)
+    ] in
     let right = told_right a.edges.now a.atoms.now a.values.now n t _ a.holds _ (search rules) (search rules) e c.settling_side-side.ensures c.true_by_length-truths.ensures in
     record {
       ready = c.requires.ready;
@@ -63,8 +63,8 @@ returns c =
     let n = c.to_say-asked.result in
     let t = c.true_by_length-truths.result in
     let e : c.if-holds.told ≡ told_of a.holds n t = elim c.if-holds.branch [
-          | then-holds w ↦ w.told-is ∙ ap (λ b. told_of b n t) (sym w.if-holds.true)
-          | else-holds w ↦ w.told-is ∙ ap (λ b. told_of b n t) (sym w.if-holds.false)
-        ] in
+      | then-holds w ↦ w.told-is ∙ ap (λ b. told_of b n t) (sym w.if-holds.true)
+      | else-holds w ↦ w.told-is ∙ ap (λ b. told_of b n t) (sym w.if-holds.false)
+    ] in
     looks_given a.holds a.values.now c.give_all.new.values c.give_all.result a.lengths n c.if-holds.told c.to_say-asked.ensures
     (told_right a.edges.now a.atoms.now a.values.now n t _ a.holds _ (search rules) (search rules) e c.settling_side-side.ensures c.true_by_length-truths.ensures) c.give_all.ensures

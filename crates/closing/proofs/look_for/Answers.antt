@@ -2,25 +2,20 @@
 use mathlib.Core.Path.{◌≡◌, refl, sym, ap, ◌∙◌, subst}
 use mathlib.Core.Bool.{Bool}
 use mathlib.Core.List.{List}
-use Prim.Native.Nat.{ℕ, ◌+◌, ◌*◌, ◌-◌, ◌≤◌, ◌<◌}
+use Prim.Native.Nat.{ℕ, ◌+◌, ◌<◌}
 use native.Mathlib.Omega.{arith}
-use borrow.Author.Rules.{rules}
-use lib.ListN.{length}
 use lib.IntN.{ℤ}
-use lib.Dec.{T}
 use Rattle.plan.specs.Meaning.{Atom, atom, true_in, graph_of}
 use Rattle.plan.specs.Places.{First}
-use Rattle.plan.specs.Tables.{edges_of, atom_of, atoms_of}
+use Rattle.plan.specs.Tables.{edges_of, atoms_of}
 use Rattle.plan.specs.Closing.{settling}
 use Rattle.plan.specs.declared.Kind.{Kind}
 use Rattle.plan.specs.declared.Side.{Side}
-use Rattle.plan.specs.declared.Measure.TheVariants.{Hops}
 use Rattle.plan.proofs.Places.{without_none, without_more}
 use Rattle.walk.specs.Walking.{Neighbours, CountLengths, Walked}
 use Rattle.walk.proofs.Truths.{not_so}
 use Rattle.walk.proofs.Asked.{by_hops}
-use Rattle.unit.specs.Onward.{Onward}
-use Rattle.closing.specs.Closed.{is_clash, and_then}
+use Rattle.closing.specs.Closed.{and_then}
 use Rattle.closing.specs.Atoms.{AtomReady, Ready, Outside, Due, Told}
 use Rattle.closing.specs.declared.Step.{Step}
 use Rattle.closing.specs.declared.Step.TheVariants.{Clash, Set, Still}
@@ -43,10 +38,10 @@ same_source q = ap (λ (A : Atom). A.from) q
 
 pub next_to_say-at-requires : goal.next_to_say-at-requires
 next_to_say-at-requires c = record {
-      atoms_ready = ready_atoms c.requires.ready;
-      count_le_max_atoms = c.requires.count_lengths.few;
-      k_le_count = omega arith;
-    }
+  atoms_ready = ready_atoms c.requires.ready;
+  count_le_max_atoms = c.requires.count_lengths.few;
+  k_le_count = omega arith;
+}
 
 pub returns-then-at-count : goal.returns-then-at-count
 returns-then-at-count c =
@@ -83,8 +78,7 @@ loop-at-preserved-then-not-is_due c =
     let a = c.args in
     let l = c.loop-at in
     let i = l.invariant in
-    let n : Due a.lengths a.atoms.now a.holds l.values l.at → ⊥ = λ d. not_so {r = c.is_due.result} refl c.if-not-is_due.true (c.is_due.ensures.1 d) in
-    (
+    let n : Due a.lengths a.atoms.now a.holds l.values l.at → ⊥ = λ d. not_so {r = c.is_due.result} refl c.if-not-is_due.true (c.is_due.ensures.1 d) in (
       omega (arith, c.loop-at-test.true),
       i.1,
       i.2,
@@ -128,11 +122,11 @@ returns-in-Clash c =
     let t = c.look_at-told in
     let l = c.loop-at in
     let known : Walked c.neighbours-sets.result c.if-atom-source.source c.if-atom-source.distances × (c.if-atom-source.source ≡ (atom (atoms_of c.args.atoms.now) c.loop-at.at).from) =
-        let q = same_source c.atom_at-atom.ensures in
-        elim c.if-atom-source.branch [
-          | then-atom-source+else-not-is_due w ↦ let e = w.wide-then-atom-source.ensures in walked_as _ (w.source-is ∙ sym e) w.distances-is w.walk-then-atom-source.ensures (e ∙ q)
-          | else-atom-source w ↦ walked_as _ w.source-is w.distances-is c.loop-at.invariant.1 (sym w.if-atom-source.false ∙ q)
-        ] in
+    let q = same_source c.atom_at-atom.ensures in
+    elim c.if-atom-source.branch [
+      | then-atom-source+else-not-is_due w ↦ let e = w.wide-then-atom-source.ensures in walked_as _ (w.source-is ∙ sym e) w.distances-is w.walk-then-atom-source.ensures (e ∙ q)
+      | else-atom-source w ↦ walked_as _ w.source-is w.distances-is c.loop-at.invariant.1 (sym w.if-atom-source.false ∙ q)
+    ] in
     λ φ f.
     looks_clash φ c.args.values.now t.new.values Clash tt
     (swept c.requires.ready c.args.lengths c.args.holds l.values t.new.values l.at _ _ _ _ l.step t.result Clash c.requires.count_lengths c.loop-at-test.true c.settling_side.ensures
@@ -143,28 +137,34 @@ loop-at-preserved-in-Set c =
     let t = c.look_at-told in
     let l = c.loop-at in
     let known : Walked c.neighbours-sets.result c.if-atom-source.source c.if-atom-source.distances × (c.if-atom-source.source ≡ (atom (atoms_of c.args.atoms.now) c.loop-at.at).from) =
-        let q = same_source c.atom_at-atom.ensures in
-        elim c.if-atom-source.branch [
-          | then-atom-source+else-not-is_due w ↦ let e = w.wide-then-atom-source.ensures in walked_as _ (w.source-is ∙ sym e) w.distances-is w.walk-then-atom-source.ensures (e ∙ q)
-          | else-atom-source w ↦ walked_as _ w.source-is w.distances-is c.loop-at.invariant.1 (sym w.if-atom-source.false ∙ q)
-        ] in
-    (omega (arith, c.loop-at-test.true), known.0, (λ t. t),
-    swept c.requires.ready c.args.lengths c.args.holds l.values t.new.values l.at _ _ _ _ l.step t.result Set c.requires.count_lengths c.loop-at-test.true c.settling_side.ensures
-    c.neighbours-sets.ensures known c.atom_at-atom.ensures t.ensures l.invariant.3 (then_set l.step _ l.invariant.2 c.in-Set.is))
+    let q = same_source c.atom_at-atom.ensures in
+    elim c.if-atom-source.branch [
+      | then-atom-source+else-not-is_due w ↦ let e = w.wide-then-atom-source.ensures in walked_as _ (w.source-is ∙ sym e) w.distances-is w.walk-then-atom-source.ensures (e ∙ q)
+      | else-atom-source w ↦ walked_as _ w.source-is w.distances-is c.loop-at.invariant.1 (sym w.if-atom-source.false ∙ q)
+    ] in (
+      omega (arith, c.loop-at-test.true),
+      known.0,
+      (λ t. t),
+      swept c.requires.ready c.args.lengths c.args.holds l.values t.new.values l.at _ _ _ _ l.step t.result Set c.requires.count_lengths c.loop-at-test.true c.settling_side.ensures
+          c.neighbours-sets.ensures known c.atom_at-atom.ensures t.ensures l.invariant.3 (then_set l.step _ l.invariant.2 c.in-Set.is),
+    )
 
 pub loop-at-preserved : goal.loop-at-preserved
 loop-at-preserved c =
     let t = c.look_at-told in
     let l = c.loop-at in
     let known : Walked c.neighbours-sets.result c.if-atom-source.source c.if-atom-source.distances × (c.if-atom-source.source ≡ (atom (atoms_of c.args.atoms.now) c.loop-at.at).from) =
-        let q = same_source c.atom_at-atom.ensures in
-        elim c.if-atom-source.branch [
-          | then-atom-source+else-not-is_due w ↦ let e = w.wide-then-atom-source.ensures in walked_as _ (w.source-is ∙ sym e) w.distances-is w.walk-then-atom-source.ensures (e ∙ q)
-          | else-atom-source w ↦ walked_as _ w.source-is w.distances-is c.loop-at.invariant.1 (sym w.if-atom-source.false ∙ q)
-        ] in
-    (omega (arith, c.loop-at-test.true), known.0, l.invariant.2,
-    swept c.requires.ready c.args.lengths c.args.holds l.values t.new.values l.at _ _ _ _ l.step t.result l.step c.requires.count_lengths c.loop-at-test.true c.settling_side.ensures
-    c.neighbours-sets.ensures known c.atom_at-atom.ensures t.ensures l.invariant.3 (then_still l.step _ c.in-Still.is))
+    let q = same_source c.atom_at-atom.ensures in
+    elim c.if-atom-source.branch [
+      | then-atom-source+else-not-is_due w ↦ let e = w.wide-then-atom-source.ensures in walked_as _ (w.source-is ∙ sym e) w.distances-is w.walk-then-atom-source.ensures (e ∙ q)
+      | else-atom-source w ↦ walked_as _ w.source-is w.distances-is c.loop-at.invariant.1 (sym w.if-atom-source.false ∙ q)
+    ] in (
+      omega (arith, c.loop-at-test.true),
+      known.0,
+      l.invariant.2,
+      swept c.requires.ready c.args.lengths c.args.holds l.values t.new.values l.at _ _ _ _ l.step t.result l.step c.requires.count_lengths c.loop-at-test.true c.settling_side.ensures
+          c.neighbours-sets.ensures known c.atom_at-atom.ensures t.ensures l.invariant.3 (then_still l.step _ c.in-Still.is),
+    )
 
 pub returns : goal.returns
 returns c =

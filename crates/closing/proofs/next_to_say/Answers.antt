@@ -1,9 +1,8 @@
 -- `closing::next_to_say`: no atom that is passed by is due.
 use mathlib.Core.Path.{refl}
-use Prim.Native.Nat.{ℕ, ◌-◌, ◌≤◌}
+use Prim.Native.Nat.{ℕ}
 use native.Mathlib.Omega.{arith}
 use borrow.Author.Rules.{rules}
-use Rattle.plan.specs.Places.{Without}
 use Rattle.plan.proofs.Places.{without_none, without_more, first_found, first_end}
 use Rattle.walk.proofs.Truths.{so, not_so}
 use Rattle.closing.specs.Atoms.{Due}

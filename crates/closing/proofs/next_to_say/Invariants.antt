@@ -1,10 +1,5 @@
-use mathlib.Core.Path.{refl}
-use Prim.Native.Nat.{ℕ, ◌-◌, ◌≤◌}
-use native.Mathlib.Omega.{arith}
-use borrow.Author.Rules.{rules}
+use Prim.Native.Nat.{◌-◌, ◌≤◌}
 use Rattle.plan.specs.Places.{Without}
-use Rattle.plan.proofs.Places.{without_none, without_more, first_found, first_end}
-use Rattle.walk.proofs.Truths.{so, not_so}
 use Rattle.closing.specs.Atoms.{Due}
 use Rattle.closing.proofs.next_to_say.Given as goal
 

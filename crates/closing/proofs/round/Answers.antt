@@ -1,9 +1,7 @@
 -- `closing::round`: where the look at the atoms changed nothing, or no edge is other than before it, all that the atoms settle is there.
-use mathlib.Core.Path.{◌≡◌, sym, subst}
-use mathlib.Core.Bool.{true, false}
+use mathlib.Core.Path.{sym, subst}
 use mathlib.Core.List.{List}
 use Prim.Native.Nat.{ℕ}
-use borrow.Author.Rules.{rules}
 use lib.IntN.{ℤ}
 use Rattle.plan.specs.Meaning.{true_in}
 use Rattle.plan.specs.Search.{Assigned, nothing}
@@ -14,11 +12,6 @@ use Rattle.unit.specs.Clauses.{AllQuiet}
 use Rattle.unit.specs.Onward.{Onward}
 use Rattle.unit.specs.Queue.{BeginsWith, Since}
 use Rattle.unit.proofs.Steps.{onward_then}
-use Rattle.closing.specs.Closed.{Looks}
-use Rattle.closing.specs.Atoms.{BothHeard}
-use Rattle.closing.specs.Rounds.{Unchanged, ClausesQuiet}
-use Rattle.closing.specs.declared.Step.{Step}
-use Rattle.closing.specs.declared.Step.TheVariants.{Clash, Set, Still}
 use Rattle.closing.proofs.Lending.{lent_ready, lent_tables, passed_on, passed_clash, passed_quiet}
 use Rattle.closing.proofs.Rounds.{same_copy, round_still, round_set, round_same}
 use Rattle.closing.proofs.round.Goals as goal

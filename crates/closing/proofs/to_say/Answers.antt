@@ -1,14 +1,13 @@
 -- `closing::to_say`: each atom of the set is looked at once, and kept where its literal is not there.
 use mathlib.Core.Path.{sym, ◌∙◌, subst}
-use mathlib.Core.Logic.{inl, inr, ⊎_elim}
+use mathlib.Core.Logic.{inl, inr}
 use Prim.Native.Nat.{ℕ, ◌<◌}
 use native.Mathlib.Omega.{arith}
-use borrow.Author.Tests.{not-true, not-false}
 use lib.Count.{count_trailing_zeros}
 use Rattle.walk.proofs.Sets.{taken}
-use Rattle.walk.proofs.Picking.{less_first, Left, left_all, left_less, Chosen, chosen_none, chosen_all, chosen_lowest}
+use Rattle.walk.proofs.Picking.{less_first, left_all, left_less, chosen_none, chosen_all, chosen_lowest}
 use Rattle.walk.proofs.Truths.{so, not_so}
-use Rattle.closing.specs.Atoms.{AtomReady, Unsaid}
+use Rattle.closing.specs.Atoms.{AtomReady}
 use Rattle.closing.proofs.Looking.{same_literal}
 use Rattle.closing.proofs.to_say.Goals as goal
 use Rattle.closing.proofs.to_say.Goals.{then-not-is_set_to, else-not-is_set_to}
