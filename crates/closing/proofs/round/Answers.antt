@@ -16,7 +16,7 @@ use Rattle.closing.proofs.Lending.{lent_ready, lent_tables, passed_on, passed_cl
 use Rattle.closing.proofs.Rounds.{same_copy, round_still, round_set, round_same}
 use Rattle.closing.proofs.round.Goals as goal
 
--- the assignment is of as many variables as the copy is
+-- what the copy is to the set after the look at the atoms: its front is the set before it, which was quiet
 since : (p : Plan) (es bs : List ℕ) {cs : List ℤ} (v copy u : List ℤ) → Assigned p.variables v → BeginsWith copy v → AllQuiet (true_in v) (clauses_of cs)
     → Onward (plan_of p es bs cs) v u → Since cs copy u
 since p es bs v copy u s b q o = record {
