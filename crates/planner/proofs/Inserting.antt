@@ -8,7 +8,7 @@ use lib.IntN.{ℤ, pos, negsuc, nat_abs}
 use lib.ListN.{length, take, drop, get_or, length-append, length-take, length-drop, get_or-append}
 use lib.Seq.{drop-drop, drop_at, get_or-take}
 use Rattle.plan.specs.Meaning.{PlanFile}
-use Rattle.plan.specs.Ranged.{max_bytes, literals}
+use Rattle.plan.specs.Ranged.{max_bytes}
 use Rattle.reader.specs.Format.{accepted, word, twos, len_at, after, literals_in, with_clauses, read_plan}
 use Rattle.reader.proofs.Bits.{twos_low, twos_high}
 use Rattle.reader.proofs.Accepts.{read_ranged}

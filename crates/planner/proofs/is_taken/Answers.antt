@@ -7,8 +7,7 @@ use mir.Syntax.{w8}
 use mir.Facts.{Fits-lit}
 use Rattle.plan.proofs.Signs.{bits_eq, bits_ne}
 use Rattle.planner.specs.Refusing.{taken}
-use Rattle.planner.proofs.is_taken.Statement.{statement}
-use Rattle.planner.proofs.is_taken.Tie as tie
+use Rattle.planner.proofs.is_taken.Goals as goal
 
 taken_known : (partial : Bool) → (true ≡ taken partial (pos 1)) × (true ≡ taken partial (negsuc 0)) × (partial ≡ taken partial (pos 0))
 taken_known true = (refl, refl, refl)
@@ -23,17 +22,16 @@ taken_other p (negsuc zero) a b c = absurd (b refl)
 taken_other true (negsuc (suc n)) a b c = refl
 taken_other false (negsuc (suc n)) a b c = refl
 
-returns-4 : tie.Need-returns-4
-returns-4 c =
-    let s = c.before.before.before in
-    taken_other s.args.partial s.args.value (bits_ne w8 _ 1 (Fits-lit tt) c.before.before.if1.false) (bits_ne w8 _ 255 (Fits-lit tt) c.before.if2.false)
-    (bits_ne w8 _ 0 (Fits-lit tt) c.if3.false)
+pub returns : goal.returns
+returns c =
+    taken_other c.args.partial c.args.value (bits_ne w8 _ 1 (Fits-lit tt) c.if-value-eq1.false) (bits_ne w8 _ 255 (Fits-lit tt) c.if-value-eqminus1.false)
+    (bits_ne w8 _ 0 (Fits-lit tt) c.if-value-eq0.false)
 
-pub is_taken_spec : {M : Type 1} → statement M
-is_taken_spec =
-    tie.close
-    (tie.spec
-    (λ c. let s = c.before in (taken_known s.args.partial).0 ∙ sym (ap (taken s.args.partial) (bits_eq w8 _ 1 s.ranges.value c.if1.true)))
-    (λ c. let s = c.before.before in (taken_known s.args.partial).1 ∙ sym (ap (taken s.args.partial) (bits_eq w8 _ 255 s.ranges.value c.if2.true)))
-    (λ c. let s = c.before.before.before in (taken_known s.args.partial).2 ∙ sym (ap (taken s.args.partial) (bits_eq w8 _ 0 s.ranges.value c.if3.true)))
-    returns-4)
+pub returns-then-value-eq1 : goal.returns-then-value-eq1
+returns-then-value-eq1 c = (taken_known c.args.partial).0 ∙ sym (ap (taken c.args.partial) (bits_eq w8 _ 1 c.ranges.value c.if-value-eq1.true))
+
+pub returns-then-value-eqminus1 : goal.returns-then-value-eqminus1
+returns-then-value-eqminus1 c = (taken_known c.args.partial).1 ∙ sym (ap (taken c.args.partial) (bits_eq w8 _ 255 c.ranges.value c.if-value-eqminus1.true))
+
+pub returns-then-value-eq0 : goal.returns-then-value-eq0
+returns-then-value-eq0 c = (taken_known c.args.partial).2 ∙ sym (ap (taken c.args.partial) (bits_eq w8 _ 0 c.ranges.value c.if-value-eq0.true))
