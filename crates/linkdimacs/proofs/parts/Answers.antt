@@ -1,5 +1,5 @@
 -- No part is longer than the buffer.
-use Rattle.std.proofs.Common.{arith, ◌≤◌, length}
+use Rattle.std.proofs.Common.{arith}
 use Rattle.plan.specs.Tables.{plan_of}
 use Rattle.plan.proofs.Tables.{atoms_length}
 use Rattle.listing.proofs.Sizes.{part_length}
@@ -17,8 +17,8 @@ write_front-requires g c =
       c.print_part-end.auto.out,
       c.print_part-end.ensures.count,
       part_length
-      (plan_of c.args.plan c.args.edges.now c.args.atoms.now c.args.clauses.now)
-      c.requires.ranged
-      c.loop-k.k
-      (omega (arith, c.loop-k-test.true, atoms_length c.args.atoms.now c.args.plan.atoms c.requires.atoms)),
+          (plan_of c.args.plan c.args.edges.now c.args.atoms.now c.args.clauses.now)
+          c.requires.ranged
+          c.loop-k.k
+          (omega (arith, c.loop-k-test.true, atoms_length c.args.atoms.now c.args.plan.atoms c.requires.atoms)),
     )

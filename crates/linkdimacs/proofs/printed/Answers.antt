@@ -1,5 +1,5 @@
 -- No atom's number is above 64.
-use Rattle.std.proofs.Common.{arith, ◌≤◌}
+use Rattle.std.proofs.Common.{arith}
 use Rattle.plan.specs.Tables.{atoms_of}
 use Rattle.plan.specs.Written.{has_block}
 use Rattle.plan.proofs.Places.{first_le}
