@@ -1,5 +1,5 @@
 # make           proves every crate, builds the programs and runs linkplan on the sample
-# make test      the whole gate: proofs from nothing, must-fail edits, programs, comparison with the independent reference
+# make test      the whole gate: proofs, must-fail edits, programs, comparison with the independent reference
 # make compare   the comparison alone: N=files, CALLS=calls, SEED=seed
 # make bench     time per branching, walk, closing, number written and printed, and byte of rules read, beside a hand-written yardstick
 # make fmt       lays the sources out
@@ -11,20 +11,21 @@ SEED ?= 1
 .PHONY: all test compare bench fmt
 
 all:
-	rt check
+	rt all check
+	tests/programs
 	$$(tests/runner) target/bin/linkplan < samples/sample.plan
 
 test:
 	tests/gate
 
 compare:
-	rt check
+	tests/programs
 	tests/compare --programs target/bin --run "$$(tests/runner)" --seed $(SEED) --files $(N) --calls $(CALLS)
 	tests/outputs --programs target/bin --run "$$(tests/runner)"
 
 bench:
-	rt check
+	tests/programs linkbench linkdimacs
 	bench/run
 
 fmt:
-	rt fmt
+	for crate in crates/*/; do (cd "$$crate" && rt fmt) || exit 1; done
