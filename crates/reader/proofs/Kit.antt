@@ -11,7 +11,7 @@ pub use mathlib.Core.List.{List, [], ◌∷◌, ◌++◌, append_assoc, append-n
 pub use Prim.Native.Nat.{ℕ, zero, suc, ◌+◌, ◌-◌, ◌*◌, ◌/◌, ◌<◌, ◌≤◌}
 pub use native.Mathlib.Omega.{arith}
 pub use borrow.Author.Rules.{rules}
-pub use borrow.Author.Tests.{lt-ltb, le-ltb, lt-leb, le-leb, eq-eqb, ne_eqb, ltb-true, ltb-false, leb-true, eqb-true, not-true, not-false}
+pub use borrow.Author.Tests.{lt-ltb, le-ltb, lt-leb, le-leb, eq-eqb, ne_eqb, ltb-true, ltb-false, leb-true, eqb-true, not-true}
 pub use lib.Dec.{ltb, leb, eqb}
 pub use lib.IntN.{ℤ, pos, negsuc, nat_abs, ◌-ℤ◌}
 pub use lib.ListN.{length, take, drop, get_or, set, length-set, length-drop, length-append}

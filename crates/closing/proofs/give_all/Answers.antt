@@ -18,13 +18,13 @@ use Rattle.plan.specs.Ranged.{LiteralFits}
 use Rattle.plan.specs.Search.{Assigned}
 use Rattle.plan.specs.Tables.{atoms_of}
 use Rattle.walk.proofs.Sets.{Taken, taken}
-use Rattle.walk.proofs.Picking.{less_first, Left, left_less}
+use Rattle.walk.proofs.Picking.{less_first, Left, left_all, left_less}
 use Rattle.closing.specs.Closed.{is_clash, and_then}
 use Rattle.closing.specs.Atoms.{AtomReady, Ready, In, Gets}
 use Rattle.closing.specs.declared.Step.{Step}
 use Rattle.closing.specs.declared.Step.TheVariants.{Clash}
-use Rattle.closing.proofs.Looking.{literal_fits, ready_on, ready_atoms, gets_shape, then_clash, then_set, then_still, looks_clash}
-use Rattle.closing.proofs.Giving.{GivenTo, given_one, given_all}
+use Rattle.closing.proofs.Looking.{literal_fits, ready_on, ready_atoms, gets_shape, then_clash, then_set, then_still, looks_clash, ready_shape}
+use Rattle.closing.proofs.Giving.{GivenTo, given_none, given_one, given_all}
 use Rattle.closing.proofs.give_all.Goals as goal
 use Rattle.closing.proofs.give_all.Goals.{in-Set, in-Still}
 
@@ -46,6 +46,9 @@ ready_at {k = k} {w = w} x s h = (ready_atoms (ready_on x (subst (λ n. Assigned
 -- its literal
 literal_is : (b : Bool) (A B : Atom) (l : ℤ) → SFits w16 l → l ≡ literal_of b A.variable → A ≡ B → to_z w16 (of_z w16 l) ≡ literal_of b B.variable
 literal_is b A B l f e q = to_z-of_z f ∙ e ∙ ap (λ (A : Atom). literal_of b A.variable) q
+
+pub loop-rest-init : goal.loop-rest-init
+loop-rest-init c = (left_all _ c.ranges.set.fits, ready_shape c.requires.ready, (λ t. t), given_none c.args.set c.args.holds c.args.values.now)
 
 pub atom_at-atom-requires : goal.atom_at-atom-requires
 atom_at-atom-requires c =

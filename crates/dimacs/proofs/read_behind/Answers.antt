@@ -1,6 +1,6 @@
 -- `dimacs::read_behind`: the scan reads what the definition reads, and its tally is judged. The table is lent whole where the plan has the text's
 -- variables, else not at all.
-use mathlib.Core.Path.{◌≡◌, ◌∙◌}
+use mathlib.Core.Path.{◌≡◌, refl, ◌∙◌}
 use mathlib.Core.Bool.{false}
 use mathlib.Core.List.{List, []}
 use Prim.Native.Nat.{◌≤◌}
@@ -11,10 +11,16 @@ use lib.Seq.{length-take-le}
 use Rattle.dimacs.specs.Words.{between}
 use Rattle.dimacs.specs.Reading.{Rule, Text, good, nothing, clauses, rules_of}
 use Rattle.dimacs.specs.Scanning.{left, Tallied}
-use Rattle.dimacs.proofs.Scans.{one_of, scan_good}
+use Rattle.dimacs.proofs.Scans.{one_of, scan_bad, scan_good}
 use Rattle.dimacs.proofs.Verdicts.{rules_front}
 use Rattle.dimacs.proofs.read_behind.Goals as goal
 use Rattle.dimacs.proofs.read_behind.Goals.{then-head-wide, else-head-wide}
+
+pub returns-in-Bad : goal.returns-in-Bad
+returns-in-Bad c =
+    let a = c.args in
+    let text_is : Text = clauses (length a.text.now) a.head.at a.head.variables a.head.count [] nothing (left (between false) a.text.now a.head.end) in
+    rw (scan_bad a.plan.clauses a.plan.literals (take c.if-head-wide.room a.table.now) c.scan-scanned.new.table text_is c.in-Bad.is c.scan-scanned.ensures) (refl, refl)
 
 pub returns-in-Good : goal.returns-in-Good
 returns-in-Good c =

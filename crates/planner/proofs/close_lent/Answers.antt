@@ -17,9 +17,6 @@ module _ (c : goal.Then-given-variables) where
   abbrev g : List ℤ
   g = c.args.given.now
 
-  abbrev old : List ℤ
-  old = c.args.res.now
-
 -- the given length is right
 module _ (c : goal.Then-res-variables) where
   past_given : close_checks c.args.given.now c.args.res.now (plan_of c.args.plan c.args.edges.now c.args.atoms.now c.args.clauses.now) ≡ require_length (plan_of c.args.plan c.args.edges.now c.args.atoms.now c.args.clauses.now) c.args.res.now (require_values is_value c.args.given.now (clear (plan_of c.args.plan c.args.edges.now c.args.atoms.now c.args.clauses.now)))

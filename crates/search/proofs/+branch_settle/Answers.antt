@@ -13,7 +13,6 @@ use mir.Facts.{to_z-of_z}
 use borrow.Author.Rules.{rules}
 use Rattle.plan.specs.Meaning.{PlanFile, on, off, add, true_in}
 use Rattle.plan.specs.Search.{Assigned, opens, Closes, CloseIs, Lowest, tried_first, tried_then}
-use Rattle.plan.specs.Ranged.{max_variables, LiteralFits}
 use Rattle.plan.specs.Tables.{atoms_of, clauses_of, plan_of}
 use Rattle.plan.specs.declared.Plan.{Plan}
 use Rattle.plan.proofs.Search.{low_n, tried_shape, tried_opens, first_of, then_of}
@@ -37,21 +36,12 @@ module _ (plan : Plan) (edges atoms : List ℕ) (clauses : List ℤ) (values : L
   abbrev set : List ℤ
   set = take n values
 
-  abbrev whole : PlanFile
-  whole = plan_of plan edges atoms clauses
-
   module _ (begins : Begins plan edges atoms clauses set budget count) (low : Lowest set place) where
     inside : suc place ≤ n
     inside = low_n n set place begins.shape low
 
-    small : place + 1 ≤ max_variables
-    small = omega (arith, inside, begins.lent.ranged.variables)
-
     -- a literal x of the variable, which the code has as y
     module _ (x y : ℤ) (of : nat_abs x ≡ suc place) (is : y ≡ x) where
-      fits : LiteralFits max_variables y
-      fits = rw is (record { low = omega arith; high = omega (arith, small) })
-
       -- the assignment with it, as the call of `with` gives it
       module _ (r : List ℤ) (e : r ≡ add values y) where
         with_it : take n r ≡ add set x

@@ -7,7 +7,6 @@ use borrow.Author.Rules.{rules}
 use lib.IntN.{ℤ, pos}
 use lib.ListN.{length, take, replicate}
 use lib.Seq.{length-take-le}
-use Rattle.plan.specs.Meaning.{PlanFile}
 use Rattle.plan.specs.Ranged.{max_variables}
 use Rattle.plan.specs.Search.{Assigned, found, decided, Searched}
 use Rattle.plan.specs.Tables.{plan_of}
@@ -35,9 +34,6 @@ length_atoms-lengths-requires c =
 module _ (c : goal.After-places-2-1) where
   abbrev n : ℕ
   n = c.args.plan.variables
-
-  abbrev whole : PlanFile
-  whole = plan_of c.args.plan c.args.edges.now c.args.atoms.now c.args.clauses.now
 
   starts : take n c.all_open-start.result.values ≡ replicate n (pos 0)
   starts = all_open_is n c.all_open-start.result.values c.requires.lent.ranged.variables c.all_open-start.ensures

@@ -6,7 +6,6 @@ use Rattle.std.proofs.lemmas.Grind.{common_steps}
 use Rattle.dimacs.specs.Words.{opens}
 use Rattle.dimacs.proofs.Spans.{nothing_left, comment_passed, word_ahead}
 use Rattle.dimacs.proofs.words.next_word.Goals as goal
-use Rattle.dimacs.proofs.words.next_word.Goals.{then-first, else-first}
 
 pub returns-then-not-text-start : goal.returns-then-not-text-start
 returns-then-not-text-start c =
