@@ -13,6 +13,7 @@ use Rattle.unit.specs.Onward.{Onward}
 use Rattle.unit.specs.Queue.{BeginsWith, Since}
 use Rattle.unit.proofs.Steps.{onward_then}
 use Rattle.closing.proofs.Lending.{lent_ready, lent_tables, passed_on, passed_clash, passed_quiet}
+use Rattle.closing.specs.Rounds.{Unchanged}
 use Rattle.closing.proofs.Rounds.{same_copy, round_still, round_set, round_same}
 use Rattle.closing.proofs.round.Goals as goal
 
@@ -83,7 +84,8 @@ returns-then-same_edges c =
     let x = c.in-Set.ensures _ (lent_tables r.lent r.assigned) in
     let p = c.propagate_changes.ensures in
     round_same _ r.lent.ranged v c.look_at_atoms-step.new.values w x (passed_on r.lent x.onward.shape p) (passed_quiet r.lent x.onward.shape p c.if-propagate_changes.false)
-    (same_copy c.args.edges.now v c.copy_of-before.result w (lent_placed r.lent _ r.assigned.long) c.copy_of-before.ensures c.if-same_edges.ensures)
+    (same_copy c.args.edges.now v c.copy_of-before.result w (lent_placed r.lent _ r.assigned.long) c.copy_of-before.ensures
+    (subst (λ b. Unchanged c.args.edges.now c.copy_of-before.result w b) c.if-same_edges.true c.same_edges.ensures))
 
 pub returns : goal.returns
 returns c =
