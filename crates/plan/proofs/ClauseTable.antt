@@ -16,6 +16,8 @@ use Rattle.plan.specs.Written.{flat}
 use Rattle.plan.specs.Tables.{in_front, clauses_of, Lent}
 use Rattle.plan.specs.ClauseTable.{EndsAt, Ended, Table, End, BeginsAt, Begin, part, Stands, Around}
 use Rattle.plan.specs.declared.Plan.{Plan}
+use Rattle.plan.specs.declared.Edge as struct-of-edge
+use Rattle.plan.specs.declared.Atom as struct-of-atom
 use Rattle.plan.proofs.Lists.{le_or_lt, mem_at, at_mem}
 use Rattle.plan.proofs.Places.{found_back, found_on, found_one, found_ahead}
 
@@ -81,7 +83,7 @@ module _ {v : ℕ} (Cs : List (List ℤ)) (fit : InRange v Cs) where
   flat_back = clauses_back Cs (λ C m l k e. let z : nat_abs l ≡ 0 = ap nat_abs e in omega (arith, (fit C m l k).low))
 
 -- what the reader guarantees of it
-module _ {p : Plan} {es bs : List ℕ} {cs : List ℤ} (lent : Lent p es bs cs) where
+module _ {p : Plan} {es : List struct-of-edge.Edge} {bs : List struct-of-atom.Atom} {cs : List ℤ} (lent : Lent p es bs cs) where
   pub lent_table : Table p.variables cs
   lent_table = subst (Table p.variables) lent.ended (flat_table (clauses_of cs) lent.ranged.literal)
 

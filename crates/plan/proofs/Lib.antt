@@ -12,10 +12,9 @@ pub mod EmptyClause
 pub mod Budget
 pub mod Reason
 pub mod Explain
-pub mod Tables
+pub mod ByPlace
 pub mod Values
 pub mod Signs
-pub mod Flipped
 pub mod Literals
 pub mod Cases
 pub mod Refusals

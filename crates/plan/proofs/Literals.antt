@@ -7,19 +7,18 @@ use mathlib.Core.List.{List}
 use Prim.Native.Nat.{ℕ, zero, suc, ◌-◌, ◌≤◌}
 use native.Mathlib.Omega.{arith}
 use lib.ListN.{length, get_or}
-use lib.IntN.{ℤ, pos, neg_ℤ, ◌-ℤ◌}
+use lib.IntN.{ℤ, pos, neg_ℤ}
 use lib.Dec.{T, eqb, eqb→eq}
-use mir.Syntax.{w8, w16}
-use mir.Val.{SFits, of_z, to_z}
-use mir.Facts.{to_z-of_z}
+use mir.Syntax.{w8}
+use mir.Val.{SFits, of_z}
 use Rattle.plan.specs.Meaning.{value, is_on, is_off, true_in, literal_of}
 use Rattle.plan.specs.Ranged.{LiteralFits}
 use Rattle.plan.specs.Search.{Assigned}
 use Rattle.plan.specs.Tables.{literal_value}
 use Rattle.plan.proofs.Add.{IsValue, on_one, off_one}
 use Rattle.plan.proofs.Bools.{T_same}
-use Rattle.plan.proofs.Signs.{minus, neg_fits, bits_eq}
-use Rattle.plan.proofs.Values.{small_ne, sign_fits, literal_value_lem, literal_true, literal_false}
+use Rattle.plan.proofs.Signs.{bits_eq}
+use Rattle.plan.proofs.Values.{sign_fits, literal_value_lem, literal_true, literal_false}
 
 -- the value v of a literal l, tested against 1 and -1
 module _ (a : List ℤ) (l v : ℤ) (s : Assigned (length a) a) (f : LiteralFits (length a) l) (e : v ≡ literal_value a l) where
@@ -37,19 +36,6 @@ module _ (a : List ℤ) (l v : ℤ) (s : Assigned (length a) a) (f : LiteralFits
 
   pub false_bits : T (true_in a (neg_ℤ l)) → of_z w8 v ≡ 255
   false_bits t = ap (of_z w8) (e ∙ (literal_false a l f.low).0 t)
-
--- a variable's two literals, made of its number
-small : (v : ℕ) → v ≤ 512 → SFits w16 (pos v)
-small v h = record { sfits = omega arith }
-
-pub on_is : (v : ℕ) → v ≤ 512 → to_z w16 v ≡ pos v
-on_is v h = to_z-of_z (small v h)
-
-pub off_fits : (v : ℕ) → v ≤ 512 → SFits w16 (pos 0 -ℤ to_z w16 v)
-off_fits v h = rw (on_is v h) (rw (minus (pos v)) (neg_fits (pos v) (small v h) (small_ne (pos v) h)))
-
-pub off_is : (v : ℕ) → v ≤ 512 → to_z w16 (of_z w16 (pos 0 -ℤ to_z w16 v)) ≡ neg_ℤ (pos v)
-off_is v h = rw (on_is v h) (rw (minus (pos v)) (to_z-of_z (neg_fits (pos v) (small v h) (small_ne (pos v) h))))
 
 -- a variable's value, tested against that of on and that of off
 on_bits : (z : ℤ) → SFits w8 z → eqb (of_z w8 z) 1 ≡ is_on z

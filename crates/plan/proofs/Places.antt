@@ -1,6 +1,6 @@
 -- Looking for the first place with a property: how a loop begins, goes on and ends, and that there is one such place.
 -- Assumes nothing.
-use mathlib.Core.Path.{◌≡◌, refl, sym, ap, ◌∙◌, subst}
+use mathlib.Core.Path.{◌≡◌, refl, sym, subst}
 use mathlib.Core.Logic.{◌⊎◌, inl, inr}
 use mathlib.Core.Bool.{Bool, true, false, cond}
 use mathlib.Core.List.Memᴰ
@@ -8,8 +8,7 @@ use mathlib.Core.List.{List, [], ◌∷◌, Memᴰ}
 use Prim.Native.Nat.{ℕ, zero, suc, ◌+◌, ◌-◌, ◌≤◌, ◌<◌}
 use native.Mathlib.Decide.{dec_lt, ℕ_discrete}
 use native.Mathlib.Omega.{arith}
-use lib.ListN.{length, get_or, drop, drop_of_length-le}
-use lib.Seq.{drop-cons}
+use lib.ListN.{length}
 use lib.Dec.{T}
 use Rattle.plan.specs.Places.{Without, First, Found, first_not}
 
@@ -75,22 +74,6 @@ module _ (P : ℕ → Type 0) where
         go : Dec (P from) → (r : ℕ) × (r ≤ last) × Found P (from + 1) end r → (r : ℕ) × (r ≤ last) × Found P from end r
         go (yes y) q = (from, omega arith, record { after = omega arith; inside = omega arith; before = without_none from; here = y })
         go (no n) q = (q.0, q.1, found_back (omega arith) (without_more (without_none from) n) q.2)
-
--- the first element that fails a test, from place i on: what is behind i decides it, where all before i passes
-module _ {A : Type 0} (ok : A → Bool) (d : A) (xs : List A) (i : ℕ) where
-  first_at_lem : i < length xs → first_not ok (drop i xs) ≡ cond (ok (get_or xs i d)) (suc (first_not ok (drop (suc i) xs))) zero
-  unfolding first_not
-  first_at_lem h = ap (first_not ok) (drop-cons xs i d h)
-
-  pub first_skip : i < length xs → ok (get_or xs i d) ≡ true → i + first_not ok (drop i xs) ≡ suc i + first_not ok (drop (suc i) xs)
-  first_skip h t = omega (arith, first_at_lem h ∙ ap (λ (b : Bool). cond b (suc (first_not ok (drop (suc i) xs))) zero) t)
-
-  pub first_here : i < length xs → ok (get_or xs i d) ≡ false → first_not ok (drop i xs) ≡ 0
-  first_here h t = first_at_lem h ∙ ap (λ (b : Bool). cond b (suc (first_not ok (drop (suc i) xs))) zero) t
-
-  pub first_none : length xs ≤ i → first_not ok (drop i xs) ≡ 0
-  unfolding first_not
-  first_none h = ap (first_not ok) (drop_of_length-le xs h)
 
 pub first_le : {A : Type 0} (ok : A → Bool) (xs : List A) → first_not ok xs ≤ length xs
 unfolding first_not

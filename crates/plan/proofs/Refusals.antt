@@ -4,8 +4,8 @@ use mathlib.Core.Path.{◌≡◌, refl, sym, ◌∙◌, ap₂}
 use mathlib.Core.Bool.{cond}
 use Prim.Native.Nat.{ℕ}
 use lib.Dec.{eqb}
-use Rattle.plan.specs.declared.Refusal.{Refusal}
-use Rattle.plan.specs.declared.Refusal.TheVariants.{TooLong, Cut, Misplaced, UnknownTag, BadLength, OutOfRange, TooMany, Shared, WrongLength, BadValue, NoSuchAtom, NoRoom, NoBlock, BadText, WrongCount, TooManyVariables}
+use Rattle.plan.specs.declared.refusal.Refusal.{Refusal}
+use Rattle.plan.specs.declared.refusal.Refusal.TheVariants.{TooLong, Cut, Misplaced, UnknownTag, BadLength, OutOfRange, TooMany, Shared, WrongLength, BadValue, NoSuchAtom, NoRoom, NoBlock, BadText, WrongCount, TooManyVariables}
 use Rattle.plan.specs.Refusals.{number_of, value_of}
 
 named : ℕ → ℕ → Refusal

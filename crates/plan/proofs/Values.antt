@@ -32,10 +32,6 @@ unfolding true_in value add
 true_off a zero h = absurd (omega arith)
 true_off a (suc i) h = ((λ t. off_one (value a (suc i)) t), (λ e. rw e tt))
 
--- no literal of a variable up to 512 is the one without an opposite
-pub small_ne : (l : ℤ) → nat_abs l ≤ 512 → l ≡ negsuc 32767 → ⊥
-small_ne l h e = let z : nat_abs l ≡ 32768 = ap nat_abs e in omega arith
-
 -- the code's store at the place of a literal's variable
 pub with_on : (a : List ℤ) (l : ℤ) (v : ℕ) → v ≡ nat_abs l → 1 ≤ nat_abs l → lt_z (pos 0) l ≡ true → set a (v - 1) (pos 1) ≡ add a l
 unfolding add

@@ -11,3 +11,6 @@ pub mod Buffers
 pub mod Front
 pub mod ClauseTable
 pub mod Refusals
+pub mod Kinds
+pub mod File
+pub mod LentOnce

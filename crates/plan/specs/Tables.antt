@@ -1,29 +1,12 @@
--- The flat tables that the reader fills and the library lends on: docs/LAYOUT.md. A plan file as it stands in them.
+-- The tables that the reader fills and the library lends on: docs/LAYOUT.md. A plan file as it stands in them.
 -- Assumes nothing.
-use Rattle.std.specs.Prelude.{◌≡◌, List, [], ◌∷◌, ℕ, zero, suc, ◌*◌, ℤ, pos, negsuc, neg_ℤ, length, get_or}
-use Rattle.plan.specs.Meaning.{Edge, Atom, PlanFile, kind_of}
+use Rattle.std.specs.Prelude.{◌≡◌, List, [], ◌∷◌, ℕ, zero, suc, ◌<◌, ℤ, pos, negsuc, neg_ℤ, length, map, get_or}
+use Rattle.plan.specs.Meaning.{Edge, Atom, PlanFile}
 use Rattle.plan.specs.Ranged.{Ranged, literals}
 use Rattle.plan.specs.Written.{flat}
 use Rattle.plan.specs.declared.Plan.{Plan}
 use Rattle.plan.specs.declared.Edge as struct-of-edge
 use Rattle.plan.specs.declared.Atom as struct-of-atom
-
--- four numbers for an edge: from, to, length, variable
-unfoldable pub edges_of : List ℕ → List Edge
-edges_of [] = []
-edges_of (f ∷ []) = []
-edges_of (f ∷ t ∷ []) = []
-edges_of (f ∷ t ∷ l ∷ []) = []
-edges_of (f ∷ t ∷ l ∷ v ∷ r) = record { from = f; to = t; length = l; variable = v } ∷ edges_of r
-
--- five numbers for an atom: its kind's number, from, to, bound, variable
-unfoldable pub atoms_of : List ℕ → List Atom
-atoms_of [] = []
-atoms_of (k ∷ []) = []
-atoms_of (k ∷ f ∷ []) = []
-atoms_of (k ∷ f ∷ t ∷ []) = []
-atoms_of (k ∷ f ∷ t ∷ d ∷ []) = []
-atoms_of (k ∷ f ∷ t ∷ d ∷ v ∷ r) = record { kind = kind_of k; from = f; to = t; bound = d; variable = v } ∷ atoms_of r
 
 -- a literal in front of the first clause; behind the last 0 there is no clause
 abbrev pub in_front : ℤ → List (List ℤ) → List (List ℤ)
@@ -44,21 +27,32 @@ edge_of e = record { from = e.from; to = e.to; length = e.length; variable = e.v
 abbrev pub atom_of : struct-of-atom.Atom → Atom
 atom_of A = record { kind = A.kind; from = A.from; to = A.to; bound = A.bound; variable = A.variable }
 
+-- The tables of edges and of atoms, as lists of the meaning.
+unfoldable pub edges_of : List struct-of-edge.Edge → List Edge
+edges_of es = map edge_of es
+
+unfoldable pub atoms_of : List struct-of-atom.Atom → List Atom
+atoms_of As = map atom_of As
+
 -- What a literal is in an assignment, as the code computes it: 1 true, -1 false, 0 open.
 unfoldable pub literal_value : List ℤ → ℤ → ℤ
 literal_value a (pos zero) = pos 0
 literal_value a (pos (suc i)) = get_or a i (pos 0)
 literal_value a (negsuc i) = neg_ℤ (get_or a i (pos 0))
 
+-- A longer list begins with a.
+abbrev pub BeginsWith : List ℤ → List ℤ → Type 0
+BeginsWith r a = (i : ℕ) → i < length a → get_or r i (pos 0) ≡ get_or a i (pos 0)
+
 -- The plan file of the tables; the struct Plan holds the counts.
-abbrev pub plan_of : Plan → List ℕ → List ℕ → List ℤ → PlanFile
+abbrev pub plan_of : Plan → List struct-of-edge.Edge → List struct-of-atom.Atom → List ℤ → PlanFile
 plan_of p es bs cs = record { nodes = p.nodes; variables = p.variables; edges = edges_of es; atoms = atoms_of bs; clauses = clauses_of cs }
 
 -- What the reader guarantees of the tables that are lent on, cut to their used parts.
-pub record Lent (p : Plan) (es bs : List ℕ) (cs : List ℤ) : Type 0 where
+pub record Lent (p : Plan) (es : List struct-of-edge.Edge) (bs : List struct-of-atom.Atom) (cs : List ℤ) : Type 0 where
   pub ranged : Ranged (plan_of p es bs cs)
-  pub edges : length es ≡ p.edges * 4
-  pub atoms : length bs ≡ p.atoms * 5
+  pub edges : length es ≡ p.edges
+  pub atoms : length bs ≡ p.atoms
   pub clauses : length (clauses_of cs) ≡ p.clauses
   pub literals : literals (clauses_of cs) ≡ p.literals
   pub ended : flat (clauses_of cs) ≡ cs

@@ -2,61 +2,109 @@
 #![tactic(auto)]
 
 pub mod clauses;
+mod refusal;
+mod tables;
 
-ghost use Rattle.std.specs.Prelude.{◌≡◌, ◌+◌, ◌*◌, ◌<◌, ◌≤◌, pos, negsuc, neg_ℤ, nat_abs, length, replicate};
-ghost use Rattle.plan.specs.Meaning.{add, edge, atom, number_of_kind, kind_of, measure_of, cost_by, literal_of, true_in};
+ghost use Rattle.std.specs.Prelude.{◌≡◌, ◌≤◌, pos, negsuc, neg_ℤ, nat_abs, length, take, replicate};
+ghost use Rattle.plan.specs.Meaning.{add, number_of_kind, measure_of, cost_by, literal_of, true_in};
 ghost use Rattle.plan.specs.Closing.{settling};
 ghost use Rattle.plan.specs.Search.{Assigned};
 ghost use Rattle.plan.specs.Ranged.{LiteralFits};
 ghost use Rattle.plan.specs.declared.Kind.{Kind};
-ghost use Rattle.plan.specs.Refusals.{number_of, value_of};
-ghost use Rattle.plan.specs.Tables.{edges_of, atoms_of, edge_of, atom_of, literal_value};
+ghost use Rattle.plan.specs.Kinds.{Decodes};
+ghost use Rattle.plan.specs.Tables.{edge_of, literal_value, BeginsWith};
 
-// Why a call is refused, with the value that is returned beside the number.
-#[derive(Clone, Copy)]
-pub enum Refusal {
-    TooLong,
-    Cut(usize),
-    Misplaced(usize),
-    UnknownTag(usize),
-    BadLength(usize),
-    OutOfRange(usize),
-    TooMany(usize),
-    Shared(usize),
-    WrongLength(usize),
-    BadValue(usize),
-    NoSuchAtom(usize),
-    NoRoom(usize),
-    NoBlock(usize),
-    BadText(usize),
-    WrongCount(usize),
-    TooManyVariables(usize),
-}
+pub use refusal::{Refusal, Short};
+use std::error::Error;
+use std::fmt;
+pub use tables::Tables;
 
 // What an atom says of its two sites: that there is a path, or one of so many hops, or of such a length, at the most.
-#[derive(Clone, Copy)]
+#[derive(Clone, Copy, Debug, PartialEq, Eq)]
 pub enum Kind {
     Reaches,
     Within,
     LengthAtMost,
 }
 
+// A number that no kind has.
+#[derive(Clone, Copy, Debug, PartialEq, Eq)]
+pub struct UnknownKind(pub u16);
+
+// The kind of a number in a file.
+impl TryFrom<u16> for Kind {
+    type Error = UnknownKind;
+
+    ghost try_from_gives = { Decodes };
+
+    fn try_from(number: u16) -> Result<Self, UnknownKind> {
+        match number {
+            1 => Ok(Kind::Reaches),
+            2 => Ok(Kind::Within),
+            3 => Ok(Kind::LengthAtMost),
+            _ => Err(UnknownKind(number)),
+        }
+    }
+}
+
+// The number of a kind in a file.
+impl From<Kind> for u16 {
+    ghost from_gives = { λ kind number. number ≡ number_of_kind kind };
+
+    fn from(kind: Kind) -> u16 {
+        match kind {
+            Kind::Reaches => 1,
+            Kind::Within => 2,
+            Kind::LengthAtMost => 3,
+        }
+    }
+}
+
+impl fmt::Display for UnknownKind {
+    fn fmt<W: fmt::Write>(&self, f: &mut fmt::Formatter<W>) -> fmt::Result {
+        write!(f, "no kind of atom has the number {}", self.0)
+    }
+}
+
+impl Error for UnknownKind {}
+
+impl Kind {
+    // What the kind counts.
+    pub fn measure(self) -> Measure
+        ensures { result ≡ measure_of self }
+    {
+        match self {
+            Kind::Reaches | Kind::Within => Measure::Hops,
+            Kind::LengthAtMost => Measure::Lengths,
+        }
+    }
+}
+
 // What is counted along a path.
-#[derive(Clone, Copy)]
+#[derive(Clone, Copy, Debug, PartialEq, Eq)]
 pub enum Measure {
     Hops,
     Lengths,
 }
 
 // A graph of a partial assignment: the edges that are on, or those that are not off.
-#[derive(Clone, Copy)]
+#[derive(Clone, Copy, Debug, PartialEq, Eq)]
 pub enum Side {
     Under,
     Over,
 }
 
+impl Side {
+    // The graph that settles that an atom holds, or that it fails: the same for every kind.
+    pub fn settling(holds: bool) -> Side
+        ensures { (kind : Kind) → result ≡ settling kind holds }
+    {
+        if holds { Side::Under } else { Side::Over }
+    }
+}
+
 // What a partial assignment says of an atom.
-#[derive(Clone, Copy)]
+#[derive(Clone, Copy, Debug, PartialEq, Eq)]
 pub enum State {
     Holds,
     Fails,
@@ -64,7 +112,7 @@ pub enum State {
 }
 
 // What stands in the tables of a plan file that was read: how many of each sort.
-#[derive(Clone, Copy)]
+#[derive(Clone, Copy, Debug, PartialEq, Eq)]
 pub struct Plan {
     pub nodes: u16,
     pub variables: u16,
@@ -84,7 +132,7 @@ impl Plan {
     pub const MAX_EDGES: usize = 256;
 }
 
-#[derive(Clone, Copy)]
+#[derive(Clone, Copy, Debug, PartialEq, Eq)]
 pub struct Edge {
     pub from: u16,
     pub to: u16,
@@ -95,12 +143,26 @@ pub struct Edge {
 impl Edge {
     pub const MAX_LENGTH: u16 = 65535;
 
-    pub const NUMBERS: usize = 4;
+    // What stands in a place of a table that is not used.
+    pub const NONE: Edge = Edge {
+        from: 0,
+        to: 0,
+        length: 0,
+        variable: 0,
+    };
 
-    pub const TABLE: usize = Plan::MAX_EDGES * Edge::NUMBERS;
+    // What the edge adds to a path.
+    pub fn cost(self, measure: Measure) -> u64
+        ensures { result ≡ cost_by measure (edge_of self) }
+    {
+        match measure {
+            Measure::Hops => 1,
+            Measure::Lengths => u64::from(self.length),
+        }
+    }
 }
 
-#[derive(Clone, Copy)]
+#[derive(Clone, Copy, Debug, PartialEq, Eq)]
 pub struct Atom {
     pub kind: Kind,
     pub from: u16,
@@ -116,12 +178,17 @@ impl Atom {
 
     pub const MAX_LENGTH_BOUND: u16 = 65535;
 
-    pub const NUMBERS: usize = 5;
-
-    pub const TABLE: usize = Atom::MAX * Atom::NUMBERS;
+    // What stands in a place of a table that is not used.
+    pub const NONE: Atom = Atom {
+        kind: Kind::Reaches,
+        from: 0,
+        to: 0,
+        bound: 0,
+        variable: 0,
+    };
 }
 
-#[derive(Clone, Copy)]
+#[derive(Clone, Copy, Debug, PartialEq, Eq)]
 pub struct Clause {
     pub literals: usize,
 }
@@ -134,8 +201,8 @@ impl Clause {
     pub const TABLE: usize = Clause::MAX_LITERALS + Clause::MAX;
 }
 
-// An assignment: the value of variable v, 1 on, -1 off, 0 open, stands at place v - 1.
-#[derive(Clone, Copy)]
+// An assignment: the value of variable v, 1 on, -1 off, 0 open, stands at place v - 1. The numbers are those of the calls, which are lent assignments as bytes.
+#[derive(Clone, Copy, Debug, PartialEq, Eq)]
 pub struct Assignment {
     pub values: [i8; Assignment::MAX],
 }
@@ -146,8 +213,28 @@ impl Assignment {
     pub fn all_open() -> Assignment
         ensures { result.values ≡ replicate 512 (pos 0) }
     {
-        let values = [0i8; Assignment::MAX];
-        Assignment { values: values }
+        Assignment {
+            values: [0; Assignment::MAX],
+        }
+    }
+
+    // The assignment that begins with these values; the rest is open.
+    pub fn of(values: &[i8]) -> Assignment
+        requires { length values.now ≤ 512 }
+        ensures { BeginsWith result.values values.now }
+    {
+        let mut whole = [0; Assignment::MAX];
+        let n = values.len();
+        whole[..n].copy_from_slice(values);
+        Assignment { values: whole }
+    }
+
+    // Writes the first values into a lent result.
+    pub fn write_to(&self, res: &mut [i8])
+        requires { length res.old ≤ 512 }
+        ensures { res.new ≡ take (length res.old) self.now.values }
+    {
+        res.copy_from_slice(&self.values[..res.len()]);
     }
 
     // The assignment with one literal more.
@@ -155,24 +242,14 @@ impl Assignment {
         requires { LiteralFits 512 literal }
         ensures { result.values ≡ add self.values literal }
     {
-        let at = variable_of(literal) - 1;
         let mut next = self;
-        if literal > 0 {
-            next.values[at] = 1;
-        } else {
-            next.values[at] = -1;
-        }
+        put(&mut next.values, literal);
         next
     }
 }
 
-pub fn wide(x: u16) -> usize
-    ensures { result ≡ x }
-{
-    x as usize
-}
-
-// The opposite of a literal; -32,768 has none.
+// The opposite of a literal; -32,768 has none. A literal stays a number, and that it is one of a variable a clause: tables are lent as numbers, and a type
+// for a literal would be made anew at each place.
 pub fn opposite(literal: i16) -> i16
     requires { literal ≡ negsuc 32767 → ⊥ }
     ensures { result ≡ neg_ℤ literal }
@@ -180,28 +257,12 @@ pub fn opposite(literal: i16) -> i16
     -literal
 }
 
-// A number without its sign, which fits for -2,147,483,648 too.
-pub fn magnitude(value: i32) -> u32
-    ensures { result ≡ nat_abs value }
-{
-    if value < 0 {
-        let below = -1 - value;
-        below as u32 + 1
-    } else {
-        value as u32
-    }
-}
-
 // The variable of a literal.
 pub fn variable_of(literal: i16) -> usize
     requires { literal ≡ negsuc 32767 → ⊥ }
     ensures { result ≡ nat_abs literal }
 {
-    if literal < 0 {
-        (-literal) as usize
-    } else {
-        literal as usize
-    }
+    usize::from(literal.unsigned_abs())
 }
 
 // A variable's literal: on or off.
@@ -210,10 +271,7 @@ pub fn literal_of(variable: usize, sign: bool) -> i16
     ensures { result ≡ literal_of sign variable }
 {
     let literal = variable as i16;
-    if sign {
-        return literal;
-    }
-    -literal
+    if sign { literal } else { -literal }
 }
 
 // What a literal is in an assignment: 1 true, -1 false, 0 open.
@@ -234,9 +292,8 @@ pub fn is_set_to(values: &[i8], variable: u16, sign: bool) -> bool
     requires variable_in_bounds { variable ≤ length values.now }
     ensures { result ≡ true_in values.now (literal_of sign variable) }
 {
-    let at = wide(variable) - 1;
     let value = if sign { 1 } else { -1 };
-    values[at] == value
+    values[usize::from(variable) - 1] == value
 }
 
 // Adds one literal to a lent assignment.
@@ -250,149 +307,5 @@ pub fn put(values: &mut [i8], literal: i16)
         values[at] = 1;
     } else {
         values[at] = -1;
-    }
-}
-
-// The edge numbered k, from 0, of an edge table.
-pub fn edge_at(edges: &[u16], k: usize) -> Edge
-    requires { k * 4 + 3 < length edges.now }
-    ensures { edge_of result ≡ edge (edges_of edges.now) k }
-{
-    let at = k * Edge::NUMBERS;
-    Edge {
-        from: edges[at],
-        to: edges[at + 1],
-        length: edges[at + 2],
-        variable: edges[at + 3],
-    }
-}
-
-// The kind that a number stands for.
-pub fn kind_of(number: u16) -> Kind
-    ensures { result ≡ kind_of number }
-{
-    if number == 1 {
-        return Kind::Reaches;
-    }
-    if number == 2 {
-        return Kind::Within;
-    }
-    Kind::LengthAtMost
-}
-
-// The number of a kind, in a file and in a table.
-pub fn number_of_kind(kind: Kind) -> u16
-    ensures { result ≡ number_of_kind kind }
-{
-    match kind {
-        Kind::Reaches => 1,
-        Kind::Within => 2,
-        Kind::LengthAtMost => 3,
-    }
-}
-
-// What a kind counts.
-pub fn measure_of(kind: Kind) -> Measure
-    ensures { result ≡ measure_of kind }
-{
-    match kind {
-        Kind::Reaches => Measure::Hops,
-        Kind::Within => Measure::Hops,
-        Kind::LengthAtMost => Measure::Lengths,
-    }
-}
-
-// What an edge adds to a path.
-pub fn cost_by(measure: Measure, edge: Edge) -> u64
-    ensures { result ≡ cost_by measure (edge_of edge) }
-{
-    match measure {
-        Measure::Hops => 1,
-        Measure::Lengths => edge.length as u64,
-    }
-}
-
-// The graph that settles that an atom holds, or that it fails: the same for every kind.
-pub fn settling_side(holds: bool) -> Side
-    ensures { (kind : Kind) → result ≡ settling kind holds }
-{
-    if holds {
-        return Side::Under;
-    }
-    Side::Over
-}
-
-// The atom numbered k, from 0, of an atom table.
-pub fn atom_at(atoms: &[u16], k: usize) -> Atom
-    requires { k * 5 + 4 < length atoms.now }
-    ensures { atom_of result ≡ atom (atoms_of atoms.now) k }
-{
-    let at = k * Atom::NUMBERS;
-    Atom {
-        kind: kind_of(atoms[at]),
-        from: atoms[at + 1],
-        to: atoms[at + 2],
-        bound: atoms[at + 3],
-        variable: atoms[at + 4],
-    }
-}
-
-// Copies one assignment over another of the same length.
-pub fn copy(to: &mut [i8], from: &[i8])
-    requires { length to.old ≡ length from.now }
-    ensures { to.new ≡ from.now }
-{
-    let mut i = 0;
-    while i < from.len() {
-        to[i] = from[i];
-        i += 1;
-    }
-}
-
-// The document's number of a refusal.
-pub fn number_of(refusal: Refusal) -> usize
-    ensures { result ≡ number_of refusal }
-{
-    match refusal {
-        Refusal::TooLong => 1,
-        Refusal::Cut(_) => 2,
-        Refusal::Misplaced(_) => 3,
-        Refusal::UnknownTag(_) => 4,
-        Refusal::BadLength(_) => 5,
-        Refusal::OutOfRange(_) => 6,
-        Refusal::TooMany(_) => 7,
-        Refusal::Shared(_) => 8,
-        Refusal::WrongLength(_) => 9,
-        Refusal::BadValue(_) => 10,
-        Refusal::NoSuchAtom(_) => 11,
-        Refusal::NoRoom(_) => 12,
-        Refusal::NoBlock(_) => 13,
-        Refusal::BadText(_) => 20,
-        Refusal::WrongCount(_) => 21,
-        Refusal::TooManyVariables(_) => 22,
-    }
-}
-
-// The value that is returned beside a refusal's number.
-pub fn returned_by(refusal: Refusal) -> usize
-    ensures { result ≡ value_of refusal }
-{
-    match refusal {
-        Refusal::TooLong => 0,
-        Refusal::Cut(offset) => offset,
-        Refusal::Misplaced(offset) => offset,
-        Refusal::UnknownTag(offset) => offset,
-        Refusal::BadLength(offset) => offset,
-        Refusal::OutOfRange(offset) => offset,
-        Refusal::TooMany(offset) => offset,
-        Refusal::Shared(offset) => offset,
-        Refusal::WrongLength(variables) => variables,
-        Refusal::BadValue(place) => place,
-        Refusal::NoSuchAtom(atoms) => atoms,
-        Refusal::NoRoom(needed) => needed,
-        Refusal::NoBlock(atom) => atom,
-        Refusal::BadText(offset) => offset,
-        Refusal::WrongCount(offset) => offset,
-        Refusal::TooManyVariables(offset) => offset,
     }
 }

@@ -7,5 +7,5 @@ use Rattle.plan.proofs.is_set_to.Goals.{then-sign, else-sign}
 
 pub returns : goal.returns
 returns c =
-    set_bits _ _ c.wide-at.result _ _ c.wide-at.ensures c.requires.le_variable (search rules)
+    set_bits _ _ c.from.result _ _ (search rules) c.requires.le_variable (search rules)
     (elim c.if-sign.branch [ then-sign w ↦ inl (w.if-sign.true, search rules) | else-sign w ↦ inr (w.if-sign.false, search rules) ])

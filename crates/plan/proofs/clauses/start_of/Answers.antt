@@ -12,15 +12,15 @@ use Rattle.plan.proofs.Places.{without_none, without_back}
 use Rattle.plan.proofs.clauses.start_of.Goals as goal
 
 pub loop-at-init : goal.loop-at-init
-loop-at-init c = (omega arith, without_none _ _)
+loop-at-init c = without_none _ _
 
 pub returns-then-clauses-at-eq0 : goal.returns-then-clauses-at-eq0
 returns-then-clauses-at-eq0 c =
     let f : SFits w16 (get_or c.args.clauses.now (c.loop-at.at - 1) (pos 0)) = search rules in
-    record { before = c.loop-at.invariant.0; within = c.loop-at.invariant.1; behind = λ h. bits_eq w16 _ 0 f c.if-clauses-at-eq0.true }
+    record { before = c.loop-at.auto.at; within = c.loop-at.invariant; behind = λ h. bits_eq w16 _ 0 f c.if-clauses-at-eq0.true }
 
 pub loop-at-preserved : goal.loop-at-preserved
-loop-at-preserved c = (omega arith, without_back _ c.loop-at.invariant.1 (λ e. c.if-clauses-at-eq0.false (ap (of_z w16) e)))
+loop-at-preserved c = without_back _ c.loop-at.invariant (λ e. c.if-clauses-at-eq0.false (ap (of_z w16) e))
 
 pub returns : goal.returns
-returns c = record { before = c.loop-at.invariant.0; within = c.loop-at.invariant.1; behind = λ h. absurd (omega arith) }
+returns c = record { before = omega arith; within = λ k a b. c.loop-at.invariant k (omega (arith, c.loop-at-test.false)) b; behind = λ h. absurd (omega arith) }
