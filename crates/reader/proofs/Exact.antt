@@ -1,16 +1,26 @@
 -- The definition needs no count of turns, and no second answer fits the reader's contract.
 -- Assumes nothing.
-use Rattle.reader.proofs.Kit.{◌≡◌, refl, sym, ap, ◌∙◌, subst, List, ℕ, zero, suc, ◌+◌, ◌*◌, ◌<◌, ◌≤◌, arith, ℤ, length, take}
+use Rattle.reader.proofs.Kit.{◌≡◌, refl, sym, ap, ◌∙◌, List, [], ◌∷◌, ℕ, zero, suc, ◌+◌, ◌<◌, ◌≤◌, arith, length, take}
+use mathlib.Core.Path.{ap₂}
+use mathlib.Core.List.{map}
+use Rattle.std.specs.Prelude.{Result, Ok, Err}
 use Rattle.plan.specs.Meaning.{PlanFile}
-use Rattle.reader.specs.Format.{Step, refuse, next, done, Reading, refused, accepted, onward, step_at, head_at, records, read_plan}
-use Rattle.reader.specs.Filling.{Tables, Room, Answers}
-use Rattle.plan.specs.Ranged.{max_nodes, max_variables, max_edges, max_atoms, max_clauses, max_literals, Ranged}
-use Rattle.plan.proofs.Refusals.{one_refusal}
-use Rattle.reader.proofs.Accepts.{read_ranged}
-use Rattle.reader.proofs.Cases.{head_by, step_by, edge_by, atom_by, clause_by}
+use Rattle.plan.specs.Ranged.{literals}
+use Rattle.plan.specs.Written.{flat}
+use Rattle.plan.specs.Tables.{edge_of, atom_of, edges_of, atoms_of}
+use Rattle.plan.specs.File.{file_of}
 use Rattle.plan.specs.declared.Plan as counted
-use Rattle.reader.specs.declared.ReadAnswer.{ReadAnswer}
-use Rattle.reader.specs.declared.ReadAnswer.TheVariants.{Accepted, Refused}
+use Rattle.plan.specs.declared.Edge as struct-of-edge
+use Rattle.plan.specs.declared.Atom as struct-of-atom
+use Rattle.plan.specs.declared.refusal.Refusal.{Refusal}
+use Rattle.plan.specs.declared.tables.Tables as lent
+use Rattle.plan.proofs.ByPlace.{edges_length, atoms_length}
+use Rattle.plan.proofs.Refusals.{one_refusal}
+use Rattle.reader.specs.declared.Buffers.{Buffers}
+use Rattle.reader.specs.Format.{Step, refuse, next, done, Reading, refused, accepted, onward, step_at, head_at, records, read_plan}
+use Rattle.reader.specs.Filling.{Tables}
+use Rattle.reader.specs.Reads.{Reads}
+use Rattle.reader.proofs.Cases.{head_by, step_by, edge_by, atom_by, clause_by}
 
 -- a step goes forward, and stays in the file
 abbrev pub Ahead : List ℕ → ℕ → Step → Type 0
@@ -60,56 +70,77 @@ read_step f at p w =
     on_same f at (records (length f) f) (read_from f) (λ b q m l. enough (length f) (suc (length f)) f b q l (omega arith) (omega arith)) (step_at f at p)
     (step_ahead f at p)
 
-counts_same : (p : PlanFile) (c d : counted.Plan) (es bs es' bs' : List ℕ) (cs cs' : List ℤ) → Tables p c es bs cs → Tables p d es' bs' cs' → c ≡ d
-counts_same p c d es bs es' bs' cs cs' t u = λ i. record {
-  nodes = (sym t.nodes ∙ u.nodes) i;
-  variables = (sym t.variables ∙ u.variables) i;
-  edges = (sym t.edges.count ∙ u.edges.count) i;
-  atoms = (sym t.atoms.count ∙ u.atoms.count) i;
-  clauses = (sym t.clauses.count ∙ u.clauses.count) i;
-  literals = (sym t.literals ∙ u.literals) i;
-}
+-- a struct is told by what it stands for, and so is a table
+same_edges : (es ds : List struct-of-edge.Edge) → edges_of es ≡ edges_of ds → es ≡ ds
+unfolding edges_of
+same_edges [] [] e = refl
+same_edges [] (d ∷ ds) e = absurd (cc)
+same_edges (x ∷ es) [] e = absurd (cc)
+same_edges (x ∷ es) (d ∷ ds) e =
+    let one : edge_of x ≡ edge_of d = cc in
+    let rest : map edge_of es ≡ map edge_of ds = cc in
+    ap₂ (λ y ys. y ∷ ys) (λ i. record { from = (one i).from; to = (one i).to; length = (one i).length; variable = (one i).variable }) (same_edges es ds rest)
 
--- no second answer fits
-pub one_answer : (q : Reading) (r s : ReadAnswer) (es bs es' bs' : List ℕ) (cs cs' : List ℤ) → Answers q r es bs cs → Answers q s es' bs' cs' → r ≡ s
-one_answer (refused n v) (Refused x) (Refused y) es bs es' bs' cs cs' h k =
-    ap Refused (one_refusal x y (sym h.0 ∙ k.0) (sym h.1 ∙ k.1))
-one_answer (refused n v) (Refused x) (Accepted d) es bs es' bs' cs cs' h k = absurd k
-one_answer (refused n v) (Accepted c) s es bs es' bs' cs cs' h k = absurd h
-one_answer (accepted p) (Refused x) s es bs es' bs' cs cs' h k = absurd h
-one_answer (accepted p) (Accepted c) (Refused y) es bs es' bs' cs cs' h k = absurd k
-one_answer (accepted p) (Accepted c) (Accepted d) es bs es' bs' cs cs' h k = ap Accepted (counts_same p c d es bs es' bs' cs cs' h k)
+same_atoms : (As Bs : List struct-of-atom.Atom) → atoms_of As ≡ atoms_of Bs → As ≡ Bs
+unfolding atoms_of
+same_atoms [] [] e = refl
+same_atoms [] (B ∷ Bs) e = absurd (cc)
+same_atoms (A ∷ As) [] e = absurd (cc)
+same_atoms (A ∷ As) (B ∷ Bs) e =
+    let one : atom_of A ≡ atom_of B = cc in
+    let rest : map atom_of As ≡ map atom_of Bs = cc in
+    ap₂ (λ y ys. y ∷ ys) (λ i. record { kind = (one i).kind; from = (one i).from; to = (one i).to; bound = (one i).bound; variable = (one i).variable }) (same_atoms As Bs rest)
 
--- and no second contents of the tables, as far as they are filled
-pub one_filling : (p : PlanFile) (c : counted.Plan) (es bs es' bs' : List ℕ) (cs cs' : List ℤ) → Tables p c es bs cs → Tables p c es' bs' cs'
-    → (take (c.edges * 4) es ≡ take (c.edges * 4) es') × (take (c.atoms * 5) bs ≡ take (c.atoms * 5) bs')
-    × (take (c.literals + c.clauses) cs ≡ take (c.literals + c.clauses) cs')
-one_filling p c es bs es' bs' cs cs' t u = (t.edges.rows ∙ sym u.edges.rows, t.atoms.rows ∙ sym u.atoms.rows, t.clauses.rows ∙ sym u.clauses.rows)
+-- two answers say the same: the same refusal, or the same counts and the same tables
+abbrev pub Same : Result lent.Tables Refusal → Result lent.Tables Refusal → Type 0
+Same (Err x) (Err y) = x ≡ y
+Same (Err x) (Ok u) = ⊥
+Same (Ok t) (Err y) = ⊥
+Same (Ok t) (Ok u) = (t.plan ≡ u.plan) × (t.edges.now ≡ u.edges.now) × (t.atoms.now ≡ u.atoms.now) × (t.clauses.now ≡ u.clauses.now)
 
--- what a caller has of an accepted file: its plan, in range, in the tables, and the counts within the tables' room
-pub record Given (f : List ℕ) (c : counted.Plan) (es bs : List ℕ) (cs : List ℤ) : Type 0 where
-  pub plan : PlanFile
-  pub reads : read_plan f ≡ accepted plan
-  pub ranged : Ranged plan
-  pub tables : Tables plan c es bs cs
-  pub room : Room c
+-- tables that are lent on are told by their plan file
+same_tables : (t u : lent.Tables) → file_of t ≡ file_of u → Same (Ok t) (Ok u)
+same_tables t u e = (
+  λ i. record {
+    nodes = (e i).nodes;
+    variables = (e i).variables;
+    edges = (sym edges_t ∙ ap (λ p. length p.edges) e ∙ edges_u) i;
+    atoms = (sym atoms_t ∙ ap (λ p. length p.atoms) e ∙ atoms_u) i;
+    clauses = (sym t.lent.clauses ∙ ap (λ p. length p.clauses) e ∙ u.lent.clauses) i;
+    literals = (sym t.lent.literals ∙ ap (λ p. literals p.clauses) e ∙ u.lent.literals) i;
+  },
+  same_edges t.edges.now u.edges.now (ap (λ p. p.edges) e),
+  same_atoms t.atoms.now u.atoms.now (ap (λ p. p.atoms) e),
+  sym t.lent.ended ∙ ap (λ p. flat p.clauses) e ∙ u.lent.ended,
+)
+  where
+    edges_t : length (edges_of t.edges.now) ≡ t.plan.edges
+    edges_t = edges_length t.edges.now ∙ t.lent.edges
 
--- the counts of a plan file in range
-pub room_of : {p : PlanFile} {c : counted.Plan} {es bs : List ℕ} {cs : List ℤ} → Ranged p → Tables p c es bs cs → Room c
-room_of r t = record {
-  nodes = subst (λ n. n ≤ max_nodes) t.nodes r.nodes;
-  variables = subst (λ n. n ≤ max_variables) t.variables r.variables;
-  edges = subst (λ n. n ≤ max_edges) t.edges.count r.edges;
-  atoms = subst (λ n. n ≤ max_atoms) t.atoms.count r.atoms;
-  clauses = subst (λ n. n ≤ max_clauses) t.clauses.count r.clauses;
-  literals = subst (λ n. n ≤ max_literals) t.literals r.literals;
-}
+    edges_u : length (edges_of u.edges.now) ≡ u.plan.edges
+    edges_u = edges_length u.edges.now ∙ u.lent.edges
 
-given_by : (f : List ℕ) (q : Reading) → read_plan f ≡ q → (c : counted.Plan) (es bs : List ℕ) (cs : List ℤ) → Answers q (Accepted c) es bs cs
-    → Given f c es bs cs
-given_by f (refused n v) e c es bs cs h = absurd h
-given_by f (accepted p) e c es bs cs h = let r = read_ranged f p e in record { plan = p; reads = e; ranged = r; tables = h; room = room_of r h }
+    atoms_t : length (atoms_of t.atoms.now) ≡ t.plan.atoms
+    atoms_t = atoms_length t.atoms.now ∙ t.lent.atoms
 
-pub given : (f : List ℕ) (a : ReadAnswer) (c : counted.Plan) (es bs : List ℕ) (cs : List ℤ) → Answers (read_plan f) a es bs cs → a ≡ Accepted c
-    → Given f c es bs cs
-given f a c es bs cs h e = given_by f (read_plan f) refl c es bs cs (subst (λ (x : ReadAnswer). Answers (read_plan f) x es bs cs) e h)
+    atoms_u : length (atoms_of u.atoms.now) ≡ u.plan.atoms
+    atoms_u = atoms_length u.atoms.now ∙ u.lent.atoms
+
+-- no second answer fits, and no second contents of the tables
+pub one_answer : (q : Reading) (r s : Result lent.Tables Refusal) → Reads q r → Reads q s → Same r s
+one_answer (refused n v) (Err x) (Err y) h k = one_refusal x y (sym h.0 ∙ k.0) (sym h.1 ∙ k.1)
+one_answer (refused n v) (Err x) (Ok u) h k = absurd k
+one_answer (refused n v) (Ok t) s h k = absurd h
+one_answer (accepted p) (Err x) s h k = absurd h
+one_answer (accepted p) (Ok t) (Err y) h k = absurd k
+one_answer (accepted p) (Ok t) (Ok u) h k = same_tables t u (h ∙ sym k)
+
+-- and what stands in the buffers behind an accepted file is told by it, as far as they are filled
+pub one_filling : (p : PlanFile) (c : counted.Plan) (b b' : Buffers) → Tables p c b → Tables p c b'
+    → (take c.edges b.edges ≡ take c.edges b'.edges) × (take c.atoms b.atoms ≡ take c.atoms b'.atoms)
+    × (take (c.literals + c.clauses) b.clauses ≡ take (c.literals + c.clauses) b'.clauses)
+one_filling p c b b' t u = (
+  same_edges _ _ (t.edges.stand ∙ sym u.edges.stand),
+  same_atoms _ _ (t.atoms.stand ∙ sym u.atoms.stand),
+  t.written ∙ sym u.written,
+)

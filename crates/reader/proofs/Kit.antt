@@ -7,11 +7,11 @@ pub use mathlib.Core.List.Memᴰ.{append_cases as List·Memᴰ·append-cases}
 pub use mathlib.Core.List.Memᴰ.{cases_cons as List·Memᴰ·cases-cons}
 pub use mathlib.Core.List.Memᴰ.{eq_of_singleton as List·Memᴰ·eq-of-singleton}
 pub use mathlib.Core.List.Memᴰ.{not-nil as List·Memᴰ·not-nil}
-pub use mathlib.Core.List.{List, [], ◌∷◌, ◌++◌, append_assoc, append-nil, Memᴰ as List-as-Memᴰ}
+pub use mathlib.Core.List.{List, [], ◌∷◌, ◌++◌, append-nil, Memᴰ as List-as-Memᴰ}
 pub use Prim.Native.Nat.{ℕ, zero, suc, ◌+◌, ◌-◌, ◌*◌, ◌/◌, ◌<◌, ◌≤◌}
 pub use native.Mathlib.Omega.{arith}
 pub use borrow.Author.Rules.{rules}
-pub use borrow.Author.Tests.{lt-ltb, le-ltb, lt-leb, le-leb, eq-eqb, ne_eqb, ltb-true, ltb-false, leb-true, eqb-true, not-true}
+pub use borrow.Author.Tests.{lt-ltb, le-ltb, lt-leb, le-leb, eq-eqb, ne_eqb, ltb-true, leb-true, eqb-true, not-true}
 pub use lib.Dec.{ltb, leb, eqb}
-pub use lib.IntN.{ℤ, pos, negsuc, nat_abs, ◌-ℤ◌}
-pub use lib.ListN.{length, take, drop, get_or, set, length-set, length-drop, length-append}
+pub use lib.IntN.{ℤ, pos, negsuc, nat_abs}
+pub use lib.ListN.{length, take, drop, get_or, set, length-drop, length-append}

@@ -12,4 +12,3 @@ pub mod Loop
 pub mod Lending
 pub mod Sample
 pub mod EmptyClause
-pub mod Cutting

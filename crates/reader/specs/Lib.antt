@@ -1,2 +1,4 @@
 pub mod Format
+pub mod Ready
 pub mod Filling
+pub mod Reads

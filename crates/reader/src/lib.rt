@@ -2,80 +2,101 @@
 #![tactic(auto)]
 
 mod fields;
-mod parts;
+mod record;
 mod records;
 
-ghost use Rattle.std.specs.Prelude.{List, ℕ, ℤ};
 ghost use Rattle.reader.specs.Format.{head_at, read_plan};
-ghost use Rattle.reader.specs.Filling.{Answers, Steps};
+ghost use Rattle.reader.specs.Filling.{Steps};
+ghost use Rattle.reader.specs.Reads.{Reads};
 
-use fields::{head_ok, record_fits, word};
-pub use parts::{used_atoms, used_clauses, used_edges};
-use plan::{Atom, Clause, Edge, Plan, Refusal};
-use records::take_record;
+use fields::head_ok;
+use plan::{Atom, Clause, Edge, Plan, Refusal, Tables};
+use record::Record;
 
+// Room for the tables of every file that may be accepted. (No Vec: no heap.)
 #[derive(Clone, Copy)]
-pub enum ReadAnswer {
-    Refused(Refusal),
-    Accepted(Plan),
+pub struct Buffers {
+    pub edges: [Edge; Plan::MAX_EDGES],
+    pub atoms: [Atom; Atom::MAX],
+    pub clauses: [i16; Clause::TABLE],
 }
 
-// What a record leads to: a refusal; the next record's offset, with the counts so far; or the whole file's counts.
+// What a record leads to: the next record's offset, with the counts so far; or the whole file's counts.
 #[derive(Clone, Copy)]
 enum Step {
-    Refuse(Refusal),
     Next(usize, Plan),
     Done(Plan),
 }
 
+// The counts in front of the first record.
+const NOTHING: Plan = Plan {
+    nodes: 0,
+    variables: 0,
+    edges: 0,
+    atoms: 0,
+    clauses: 0,
+    literals: 0,
+};
+
 // The file's length and its head.
-fn head(file: &[u8]) -> Step
-    ensures { (es bs : List ℕ) (cs : List ℤ) → Steps es bs cs (head_at file.now) result }
+fn head(file: &[u8]) -> Result<Step, Refusal>
+    ensures { (b : _) → Steps b (head_at file.now) result }
 {
     if file.len() > Plan::MAX_BYTES {
-        return Step::Refuse(Refusal::TooLong);
+        return Err(Refusal::TooLong);
     }
-    if !record_fits(file, 0) {
-        return Step::Refuse(Refusal::Cut(0));
+    let record = Record::at(file, 0, NOTHING)?;
+    if record.tag() != 1 {
+        return Err(Refusal::Misplaced(0));
     }
-    if file[0] != 1 {
-        return Step::Refuse(Refusal::Misplaced(0));
+    if record.len() != 4 {
+        return Err(Refusal::BadLength(0));
     }
-    if word(file, 1) != 4 {
-        return Step::Refuse(Refusal::BadLength(0));
-    }
-    let nodes = word(file, 3);
-    let variables = word(file, 5);
+    let nodes = record.word(3);
+    let variables = record.word(5);
     if !head_ok(nodes, variables) {
-        return Step::Refuse(Refusal::OutOfRange(0));
+        return Err(Refusal::OutOfRange(0));
     }
-    let counts = Plan {
-        nodes: nodes,
-        variables: variables,
-        edges: 0,
-        atoms: 0,
-        clauses: 0,
-        literals: 0,
-    };
-    Step::Next(7, counts)
+    Ok(Step::Next(
+        record.end(),
+        Plan {
+            nodes,
+            variables,
+            ..record.counts
+        },
+    ))
 }
 
-// Reads a plan file into the tables.
-pub fn read_into(
-    file: &[u8],
-    edges: &mut [u16; Edge::TABLE],
-    atoms: &mut [u16; Atom::TABLE],
-    clauses: &mut [i16; Clause::TABLE],
-) -> ReadAnswer
-    ensures { Answers (read_plan file.now) result edges.new atoms.new clauses.new }
-{
-    let mut step = head(file);
-    loop {
-        match step {
-            Step::Refuse(why) => return ReadAnswer::Refused(why),
-            Step::Done(counts) => return ReadAnswer::Accepted(counts),
-            Step::Next(at, counts) => {
-                step = take_record(file, at, counts, edges, atoms, clauses);
+impl Buffers {
+    // Nothing is promised of what stands in them: a read lends on only what it wrote.
+    pub fn new() -> Buffers {
+        Buffers {
+            edges: [Edge::NONE; Plan::MAX_EDGES],
+            atoms: [Atom::NONE; Atom::MAX],
+            clauses: [0; Clause::TABLE],
+        }
+    }
+
+    // Reads a plan file into the tables, and lends their used parts.
+    pub fn read(&mut self, file: &[u8]) -> Result<Tables<'_>, Refusal>
+        ensures { Reads (read_plan file.now) result }
+    {
+        let mut step = head(file)?;
+        // Each record says where the next one begins.
+        loop {
+            match step {
+                Step::Next(at, counts) => {
+                    let record = Record::at(file, at, counts)?;
+                    step = self.take(record)?;
+                }
+                Step::Done(plan) => {
+                    return Ok(Tables {
+                        plan,
+                        edges: &self.edges[..plan.edges],
+                        atoms: &self.atoms[..plan.atoms],
+                        clauses: &self.clauses[..plan.literals + plan.clauses],
+                    });
+                }
             }
         }
     }

@@ -1,44 +1,17 @@
 // The records behind the head: each is tested, and goes into its table or is refused.
-ghost use Rattle.std.specs.Prelude.{◌≡◌, true, List, [], ◌∷◌, ◌++◌, ℕ, ◌+◌, ◌*◌, ◌<◌, ◌≤◌, ℤ, pos, length, take};
+ghost use Rattle.std.specs.Prelude.{◌≡◌, true, false, [], ◌∷◌, ◌++◌, ◌+◌, ◌*◌, ◌≤◌, pos, MatchResult};
 ghost use Rattle.plan.specs.ClauseTable.{max_table};
 ghost use Rattle.plan.specs.Front.{Laid};
-ghost use Rattle.plan.specs.Tables.{edge_of, atom_of};
-ghost use Rattle.reader.specs.Format.{after, literals_in, literals_ok, edge_at, atom_at, clause_at, end_at, step_at};
-ghost use Rattle.reader.specs.Filling.{Room, Ready, Takes, edge_row, atom_row, last_is};
+ghost use Rattle.plan.specs.declared.refusal.Refusal.TheVariants.{OutOfRange};
+ghost use Rattle.reader.specs.Format.{len_at, literals_in, literals_ok, edge_at, atom_at, clause_at, end_at, step_at};
+ghost use Rattle.reader.specs.Filling.{Takes};
 
-use crate::Step;
-use crate::fields::{
-    atom_in, atom_ok, edge_in, edge_len, edge_ok, kind_in, literal, literal_ok, record_fits, word,
-};
-use plan::{Atom, Clause, Edge, Plan, Refusal, wide};
+use crate::fields::{atom_ok, edge_ok, literal_ok};
+use crate::record::{Record, edge_len};
+use crate::{Buffers, Step};
+use plan::{Atom, Clause, Plan, Refusal};
 
-// Writes the row of an edge behind n others; put_atom that of an atom.
-fn put_edge(table: &mut [u16], n: usize, edge: Edge)
-    requires { (n + 1) * 4 ≤ length table.old }
-    ensures { take ((n + 1) * 4) table.new ≡ take (n * 4) table.old ++ edge_row (edge_of edge) }
-{
-    let row = n * Edge::NUMBERS;
-    table[row] = edge.from;
-    table[row + 1] = edge.to;
-    table[row + 2] = edge.length;
-    table[row + 3] = edge.variable;
-}
-
-fn put_atom(table: &mut [u16], n: usize, atom: Atom)
-    requires { (n + 1) * 5 ≤ length table.old }
-    ensures { take ((n + 1) * 5) table.new ≡ take (n * 5) table.old ++ atom_row (atom_of atom) }
-{
-    let row = n * Atom::NUMBERS;
-    let kind = atom.kind;
-    let number = plan::number_of_kind(kind);
-    table[row] = number;
-    table[row + 1] = atom.from;
-    table[row + 2] = atom.to;
-    table[row + 3] = atom.bound;
-    table[row + 4] = atom.variable;
-}
-
-// A number goes to its place, if the table has that place.
+// A number goes to its place, if the table has that place. (`get_mut` does not say what the table then holds.)
 fn lay(table: &mut [i16], place: usize, number: i16)
     ensures { Laid (number ∷ []) place table.old table.new (place + 1) }
 {
@@ -47,181 +20,141 @@ fn lay(table: &mut [i16], place: usize, number: i16)
     }
 }
 
-// Each of the literals is tested and goes to the table, from place `to` on, and a 0 behind them. False: one is out of range.
-fn take_literals(
-    file: &[u8],
-    from: usize,
-    count: usize,
-    variables: u16,
-    out: &mut [i16],
-    to: usize,
-) -> bool
-    requires { (from + count * 2 ≤ length file.now) × (to ≤ max_table) }
-    ensures value { result ≡ literals_ok variables (literals_in file.now from count) }
-    ensures laid { result ≡ true → Laid (literals_in file.now from count ++ (pos 0 ∷ [])) to out.old out.new (to + count + 1) }
+// Each of the record's literals is tested and goes to the table, from place `to` on, and a 0 behind them.
+fn take_literals(source: Record, count: usize, table: &mut [i16], to: usize) -> Result<(), Refusal>
+    requires long { count * 2 ≤ len_at source.file.now source.at }
+    requires place { to ≤ max_table }
+    ensures { let literals = literals_in source.entry.file.now (source.entry.at + 3) count in
+        let ranged = literals_ok source.entry.counts.variables literals in
+        MatchResult result
+        (λ _. (ranged ≡ true) × Laid (literals ++ (pos 0 ∷ [])) to table.old table.new (to + count + 1))
+        (λ y. (y ≡ OutOfRange source.entry.at) × (ranged ≡ false)) }
 {
-    let mut at = from;
-    let mut left = count;
-    let mut k = to;
-    while left > 0 {
-        let number = word(file, at);
-        if !literal_ok(variables, number) {
-            return false;
+    for i in 0..count {
+        let literal = source.word(3 + 2 * i).cast_signed();
+        if !literal_ok(source.counts.variables, literal) {
+            return Err(Refusal::OutOfRange(source.at));
         }
-        lay(out, k, literal(number));
-        at += 2;
-        left -= 1;
-        k += 1;
+        lay(table, to + i, literal);
     }
-    lay(out, k, 0);
-    true
-}
-
-// Some row of the table's used part ends in that variable. A row is `before` numbers and the variable behind them.
-fn uses(table: &[u16], used: usize, before: usize, variable: u16) -> bool
-    requires { used ≤ length table.now }
-    ensures { result ≡ last_is before before (take used table.now) variable }
-{
-    let mut row = 0;
-    while used - row > before {
-        let last = row + before;
-        if table[last] == variable {
-            return true;
-        }
-        row = last + 1;
-    }
-    false
-}
-
-// Takes the edge of the record at an offset, with a length field or without, into its table; or refuses it by the first refusal that the record
-// meets, in the document's order. The others do the same for their sorts.
-fn take_edge(
-    file: &[u8],
-    at: usize,
-    long: bool,
-    counts: Plan,
-    edges: &mut [u16; Edge::TABLE],
-    atoms: &[u16; Atom::TABLE],
-) -> Step
-    requires { Ready file.now at counts }
-    ensures { (cs : List ℤ) → Takes (edge_at long file.now at) counts edges.old atoms.now cs result edges.new atoms.now cs }
-{
-    let len = edge_len(long);
-    if word(file, at + 1) != len {
-        return Step::Refuse(Refusal::BadLength(at));
-    }
-    let edge = edge_in(file, at, long);
-    if !edge_ok(counts, edge) {
-        return Step::Refuse(Refusal::OutOfRange(at));
-    }
-    let n = counts.edges;
-    if n >= Plan::MAX_EDGES {
-        return Step::Refuse(Refusal::TooMany(at));
-    }
-    let used = counts.atoms * Atom::NUMBERS;
-    if uses(atoms, used, 4, edge.variable) {
-        return Step::Refuse(Refusal::Shared(at));
-    }
-    put_edge(edges, n, edge);
-    let mut next = counts;
-    next.edges = n + 1;
-    Step::Next(at + 3 + wide(len), next)
-}
-
-fn take_atom(
-    file: &[u8],
-    at: usize,
-    counts: Plan,
-    edges: &[u16; Edge::TABLE],
-    atoms: &mut [u16; Atom::TABLE],
-) -> Step
-    requires { Ready file.now at counts }
-    ensures { (cs : List ℤ) → Takes (atom_at file.now at) counts edges.now atoms.old cs result edges.now atoms.new cs }
-{
-    if word(file, at + 1) != 9 {
-        return Step::Refuse(Refusal::BadLength(at));
-    }
-    let atom = atom_in(file, at);
-    if !atom_ok(counts, kind_in(file, at), atom) {
-        return Step::Refuse(Refusal::OutOfRange(at));
-    }
-    let n = counts.atoms;
-    if n >= Atom::MAX {
-        return Step::Refuse(Refusal::TooMany(at));
-    }
-    let used = counts.edges * Edge::NUMBERS;
-    if uses(edges, used, 3, atom.variable) {
-        return Step::Refuse(Refusal::Shared(at));
-    }
-    put_atom(atoms, n, atom);
-    let mut next = counts;
-    next.atoms = n + 1;
-    Step::Next(at + 12, next)
-}
-
-fn take_clause(file: &[u8], at: usize, counts: Plan, clauses: &mut [i16; Clause::TABLE]) -> Step
-    requires { Ready file.now at counts }
-    ensures { (es bs : List ℕ) → Takes (clause_at file.now at) counts es bs clauses.old result es bs clauses.new }
-{
-    let len = wide(word(file, at + 1));
-    let n = len / 2;
-    if n * 2 != len {
-        return Step::Refuse(Refusal::BadLength(at));
-    }
-    // 6 comes before 7. One pass tests and copies all the same: nothing looks at the tables of a refused file.
-    let to = counts.literals + counts.clauses;
-    if !take_literals(file, at + 3, n, counts.variables, clauses, to) {
-        return Step::Refuse(Refusal::OutOfRange(at));
-    }
-    if counts.clauses >= Clause::MAX {
-        return Step::Refuse(Refusal::TooMany(at));
-    }
-    if counts.literals + n > Clause::MAX_LITERALS {
-        return Step::Refuse(Refusal::TooMany(at));
-    }
-    let mut next = counts;
-    next.clauses += 1;
-    next.literals += n;
-    Step::Next(at + 3 + len, next)
+    lay(table, to + count, 0);
+    Ok(())
 }
 
 // Behind an end record the file ends.
-fn take_end(file: &[u8], at: usize, counts: Plan) -> Step
-    requires { after file.now at ≤ length file.now }
-    ensures { (es bs : List ℕ) (cs : List ℤ) → Takes (end_at file.now at) counts es bs cs result es bs cs }
+fn take_end(source: Record) -> Result<Step, Refusal>
+    ensures { (b : _) → Takes (end_at source.entry.file.now source.entry.at) source.entry.counts b result b }
 {
-    if word(file, at + 1) != 0 {
-        return Step::Refuse(Refusal::BadLength(at));
+    if source.len() != 0 {
+        return Err(Refusal::BadLength(source.at));
     }
-    let end = at + 3;
-    if file.len() != end {
-        return Step::Refuse(Refusal::Misplaced(end));
+    let end = source.end();
+    if source.file.len() != end {
+        return Err(Refusal::Misplaced(end));
     }
-    Step::Done(counts)
+    Ok(Step::Done(source.counts))
 }
 
-// A record of any sort behind the head.
-pub fn take_record(
-    file: &[u8],
-    at: usize,
-    counts: Plan,
-    edges: &mut [u16; Edge::TABLE],
-    atoms: &mut [u16; Atom::TABLE],
-    clauses: &mut [i16; Clause::TABLE],
-) -> Step
-    requires { (at ≤ length file.now) × Room counts }
-    ensures { Takes (step_at file.now at) counts edges.old atoms.old clauses.old result edges.new atoms.new clauses.new }
-{
-    if !record_fits(file, at) {
-        return Step::Refuse(Refusal::Cut(at));
+impl Buffers {
+    // Takes the edge of a record, with a length field or without, into its table; or refuses it by the first refusal that the record meets, in the
+    // document's order. The others do the same for their sorts.
+    fn take_edge(&mut self, source: Record, long: bool) -> Result<Step, Refusal>
+        ensures { Takes (edge_at long source.entry.file.now source.entry.at) source.entry.counts self.old result self.new }
+    {
+        let Record { at, counts, .. } = source;
+        if source.len() != edge_len(long) {
+            return Err(Refusal::BadLength(at));
+        }
+        let edge = source.edge(long);
+        if !edge_ok(counts, edge) {
+            return Err(Refusal::OutOfRange(at));
+        }
+        let n = counts.edges;
+        if n >= Plan::MAX_EDGES {
+            return Err(Refusal::TooMany(at));
+        }
+        let atoms = &self.atoms[..counts.atoms];
+        if atoms.iter().any(|atom| atom.variable == edge.variable) {
+            return Err(Refusal::Shared(at));
+        }
+        self.edges[n] = edge;
+        Ok(Step::Next(
+            source.end(),
+            Plan {
+                edges: n + 1,
+                ..counts
+            },
+        ))
     }
-    match file[at] {
-        1 => Step::Refuse(Refusal::Misplaced(at)),
-        2 => take_edge(file, at, false, counts, edges, atoms),
-        3 => take_atom(file, at, counts, edges, atoms),
-        4 => take_clause(file, at, counts, clauses),
-        5 => take_end(file, at, counts),
-        6 => take_edge(file, at, true, counts, edges, atoms),
-        _ => Step::Refuse(Refusal::UnknownTag(at)),
+
+    fn take_atom(&mut self, source: Record) -> Result<Step, Refusal>
+        ensures { Takes (atom_at source.entry.file.now source.entry.at) source.entry.counts self.old result self.new }
+    {
+        let Record { at, counts, .. } = source;
+        if source.len() != 9 {
+            return Err(Refusal::BadLength(at));
+        }
+        let Ok(atom) = source.atom() else {
+            return Err(Refusal::OutOfRange(at));
+        };
+        if !atom_ok(counts, atom) {
+            return Err(Refusal::OutOfRange(at));
+        }
+        let n = counts.atoms;
+        if n >= Atom::MAX {
+            return Err(Refusal::TooMany(at));
+        }
+        let edges = &self.edges[..counts.edges];
+        if edges.iter().any(|edge| edge.variable == atom.variable) {
+            return Err(Refusal::Shared(at));
+        }
+        self.atoms[n] = atom;
+        Ok(Step::Next(
+            source.end(),
+            Plan {
+                atoms: n + 1,
+                ..counts
+            },
+        ))
+    }
+
+    fn take_clause(&mut self, source: Record) -> Result<Step, Refusal>
+        ensures { Takes (clause_at source.entry.file.now source.entry.at) source.entry.counts self.old result self.new }
+    {
+        let Record { at, counts, .. } = source;
+        let len = usize::from(source.len());
+        if len % 2 != 0 {
+            return Err(Refusal::BadLength(at));
+        }
+        let n = len / 2;
+        // 6 comes before 7. One pass tests and copies all the same: nothing looks at the tables of a refused file.
+        let to = counts.literals + counts.clauses;
+        take_literals(source, n, &mut self.clauses, to)?;
+        if counts.clauses >= Clause::MAX || counts.literals + n > Clause::MAX_LITERALS {
+            return Err(Refusal::TooMany(at));
+        }
+        Ok(Step::Next(
+            source.end(),
+            Plan {
+                clauses: counts.clauses + 1,
+                literals: counts.literals + n,
+                ..counts
+            },
+        ))
+    }
+
+    // A record of any sort behind the head. The tag is told here once: an enum between would be a second match.
+    pub(crate) fn take(&mut self, source: Record) -> Result<Step, Refusal>
+        ensures { Takes (step_at source.entry.file.now source.entry.at) source.entry.counts self.old result self.new }
+    {
+        match source.tag() {
+            1 => Err(Refusal::Misplaced(source.at)),
+            2 => self.take_edge(source, false),
+            3 => self.take_atom(source),
+            4 => self.take_clause(source),
+            5 => take_end(source),
+            6 => self.take_edge(source, true),
+            _ => Err(Refusal::UnknownTag(source.at)),
+        }
     }
 }

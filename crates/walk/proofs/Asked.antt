@@ -3,8 +3,8 @@
 use mathlib.Core.Path.{◌≡◌, refl, sym, subst}
 use mathlib.Core.Logic.{◌↔◌}
 use mathlib.Core.Bool.{Bool}
-use mathlib.Core.List.{List, [], ◌∷◌, Memᴰ}
-use Prim.Native.Nat.{ℕ, ◌+◌, ◌*◌, ◌<◌, ◌≤◌}
+use mathlib.Core.List.{List, Memᴰ}
+use Prim.Native.Nat.{ℕ, ◌<◌}
 use native.Mathlib.Omega.{arith}
 use lib.ListN.{length}
 use lib.Dec.{T}
@@ -12,22 +12,8 @@ use Rattle.plan.specs.Meaning.{Edge, Atom, Graph, no_atom, atom, measure_of, cos
 use Rattle.plan.specs.declared.Measure.{Measure}
 use Rattle.plan.specs.declared.Measure.TheVariants.{Hops, Lengths}
 use Rattle.plan.proofs.Lists.{mem_at}
-use Rattle.plan.specs.Tables.{atoms_of}
+use Rattle.walk.specs.declared.distances.Distances.{Distances}
 use Rattle.walk.specs.Walking.{bit, DistanceTable, Truth, LengthAtoms, CountLengths}
-
--- five numbers for each
-atoms_most : (l : List ℕ) → length (atoms_of l) * 5 ≤ length l
-unfolding atoms_of
-atoms_most [] = omega arith
-atoms_most (k ∷ []) = omega arith
-atoms_most (k ∷ f ∷ []) = omega arith
-atoms_most (k ∷ f ∷ t ∷ []) = omega arith
-atoms_most (k ∷ f ∷ t ∷ d ∷ []) = omega arith
-atoms_most (k ∷ f ∷ t ∷ d ∷ v ∷ r) = omega (arith, atoms_most r)
-
--- an atom of the set has its five numbers
-pub asked_within : (l : List ℕ) (asked k : ℕ) → LengthAtoms (atoms_of l) asked → T (bit k asked) → k * 5 + 4 < length l
-asked_within l asked k a t = omega (arith, a.listed k t, atoms_most l)
 
 -- some of them
 pub asked_part : {As : List Atom} {asked part : ℕ} → LengthAtoms As asked → ((k : ℕ) → T (bit k part) → T (bit k asked)) → LengthAtoms As part
@@ -39,7 +25,7 @@ asked_part a h = record {
 }
 
 -- the distances by length are those that such an atom counts
-pub asked_true : {As : List Atom} {asked : ℕ} (k : ℕ) → LengthAtoms As asked → T (bit k asked) → (A : Atom) → A ≡ atom As k → (d : List ℕ) (r : Bool) → Truth A d r
+pub asked_true : {As : List Atom} {asked : ℕ} (k : ℕ) → LengthAtoms As asked → T (bit k asked) → (A : Atom) → A ≡ atom As k → (d : Distances) (r : Bool) → Truth A d r
     → (es : List Edge) (g : Graph) → DistanceTable own_length es g (atom As k).from d → T r ↔ IsTrue es g (atom As k)
 asked_true {As} k a t A e d r h es g x =
     subst (λ B. Truth B d r) e h es g (subst (λ m. DistanceTable (cost_by m) es g (atom As k).from d) (sym (a.lengths k t)) x)

@@ -8,7 +8,7 @@ use Prim.Native.Nat.{ℕ, zero, suc, ◌+◌, ◌-◌, ◌^◌, ◌<◌, ◌≤�
 use native.Mathlib.Decide.{dec_lt}
 use native.Mathlib.Omega.{arith}
 use lib.Bits.{bit_and, bit_or, or_lt, and_le_r}
-use lib.ListN.{length, get_or, set, replicate, length-set}
+use lib.ListN.{length, get_or, set, replicate}
 use lib.Seq.{get_or-set_same}
 use lib.Arith.{lt-one}
 use lib.Pow.{pow-lt}
@@ -16,10 +16,10 @@ use lib.Dec.{T}
 use Rattle.plan.specs.Meaning.{Edge, Graph, Leads, Walk, stay, hop, one_hop}
 use Rattle.plan.proofs.Bools.{T?, or_cases, or_left, or_right}
 use Rattle.plan.proofs.Walks.{its_in}
-use Rattle.walk.specs.Walking.{bit, Inside, Neighbours, DistanceTable, Room}
+use Rattle.walk.specs.Walking.{bit, Inside, Neighbours, DistanceTable}
 use Rattle.walk.specs.Front.{size, Visited}
 use Rattle.walk.proofs.Sets.{bit_inside, bit_one, bit_or_lem, bit_and_not, and_not_lt, size_or, size_one, size_le, or_apart}
-use Rattle.walk.proofs.Reach.{set_table}
+use Rattle.walk.proofs.Truths.{table_of}
 
 -- A walk from s over the sets of neighbours.
 pub data Trail (sets : List ℕ) (s : ℕ) : ℕ → ℕ → Type 0 where
@@ -40,23 +40,18 @@ pub record Bfs (sets : List ℕ) (s reached : ℕ) (counts queue : List ℕ) (ta
       → T (bit w reached) × (get_or counts w 0 ≤ suc (get_or counts (get_or queue i 0) 0))
   pub many : tail ≡ size reached
   pub fits : reached < 2 ^ 64
-  pub numbered : Room counts
-  pub places : length queue ≡ 64
 
 pub tail_le : {sets : List ℕ} {s reached : ℕ} {counts queue : List ℕ} {tail head : ℕ} → Bfs sets s reached counts queue tail head → tail ≤ 64
 tail_le {reached = reached} b = omega (arith, b.many, size_le 64 reached)
 
--- a node in the queue is a node, and its count is small
-module _ {sets : List ℕ} {s reached : ℕ} {counts queue : List ℕ} {tail head : ℕ} (b : Bfs sets s reached counts queue tail head) (room : head < tail) where
-  pub node_in : get_or queue head 0 < 64
-  node_in = bit_inside 64 (get_or queue head 0) reached b.fits (b.seen head room)
-
-  pub count_in : get_or counts (get_or queue head 0) 0 < 64
-  count_in = omega (arith, b.low head room, tail_le b)
+-- the count of a node in the queue is small
+pub count_in : {sets : List ℕ} {s reached : ℕ} {counts queue : List ℕ} {tail head : ℕ} → Bfs sets s reached counts queue tail head → head < tail
+    → get_or counts (get_or queue head 0) 0 < 64
+count_in {head = head} b room = omega (arith, b.low head room, tail_le b)
 
 -- ---- where the walk begins
 
-pub begin : (sets : List ℕ) (s reached : ℕ) (d : List ℕ) → s < 64 → Room d → reached ≡ 2 ^ s → Bfs sets s reached (set d s 0) (set (replicate 64 0) 0 s) 1 0
+pub begin : (sets : List ℕ) (s reached : ℕ) (d : List ℕ) → s < 64 → length d ≡ 64 → reached ≡ 2 ^ s → Bfs sets s reached (set d s 0) (set (replicate 64 0) 0 s) 1 0
 begin sets s reached d l room e = record {
   source = there;
   begins = none s refl;
@@ -69,8 +64,6 @@ begin sets s reached d l room e = record {
   closed = λ i w m l t. absurd (omega arith);
   many = omega (arith, ap size e, size_one 64 s l);
   fits = omega (arith, e, pow-lt l);
-  numbered = length-set d s 0 ∙ room;
-  places = refl;
 }
   where
     there : T (bit s reached)
@@ -191,8 +184,6 @@ module _ (sets : List ℕ) (s reached : ℕ) (counts queue : List ℕ) (tail hea
       ];
       many = omega (arith, v.ends, b.many, size_or 64 reached new (λ i t n. fresh i n t));
       fits = or_lt 64 reached new b.fits small;
-      numbered = v.numbered ∙ b.numbered;
-      places = v.places ∙ b.places;
     }
 
 -- ---- the same by the nodes that are left: the new ones are among them, and are taken away
@@ -246,6 +237,5 @@ module _ (sets : List ℕ) (s : ℕ) (below : s < 64) (es : List Edge) (g : Grap
         let c = b.closed p.0 w p.1 l.1 (subst (λ (x : ℕ). T (bit w (get_or sets x 0))) (sym p.2) ((n.exact u w l.0 l.1).1 d)) in
         (c.0, omega (arith, e, c.1, o.1, ap (λ (x : ℕ). get_or counts x 0) p.2))
 
-    -- the set stands behind the counts
-    pub table : DistanceTable one_hop es g s (set counts 64 reached)
-    table = set_table reached counts b.numbered b.fits (λ w t. walked (b.sound w t)) (λ w k r. reach r)
+    pub table : DistanceTable one_hop es g s (record { far = counts; reached = reached })
+    table = table_of _ (λ w t. walked (b.sound w t)) (λ w k r. reach r)

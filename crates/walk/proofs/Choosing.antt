@@ -1,6 +1,6 @@
 -- The nearest node of a set, looked for node by node, the lowest first.
 -- Assumes nothing.
-use mathlib.Core.Path.{◌≡◌, sym, ap, subst}
+use mathlib.Core.Path.{◌≡◌, ap, subst}
 use mathlib.Core.Logic.{◌⊎◌, inl, inr, ⊎_elim, ◌≢◌}
 use mathlib.Core.List.{List}
 use Prim.Native.Nat.{ℕ, ◌-◌, ◌^◌, ◌<◌, ◌≤◌}
@@ -15,7 +15,6 @@ use Rattle.walk.proofs.Sets.{bit_empty, Taken, taken}
 
 -- The node is one of the set, and no other is nearer, but for those that are left to look at.
 pub record Choosing (set rest : ℕ) (d : List ℕ) (node : ℕ) : Type 0 where
-  pub fits : rest < 2 ^ 64
   pub part : (w : ℕ) → T (bit w rest) → T (bit w set)
   pub is : T (bit node set)
   pub least : (w : ℕ) → T (bit w set) → T (bit w rest) ⊎ (get_or d node 0 ≤ get_or d w 0)
@@ -24,17 +23,15 @@ pub choose_start : (set : ℕ) (d : List ℕ) → set < 2 ^ 64 → set ≢ 0 →
 choose_start set d f n =
     let t = taken set f n in
     record {
-      fits = omega (arith, t.fewer);
       part = t.kept;
       is = t.is;
       least = λ w m. ⊎_elim (λ e. inr (omega (arith, ap (λ (x : ℕ). get_or d x 0) e))) (λ r. inl r) (t.other w m);
     }
 
 -- a node of what is left is looked at, and the nearer one of the two is kept
-module _ {set rest : ℕ} {d : List ℕ} {node other next rest' : ℕ} (c : Choosing set rest d node) (t : Taken rest other rest') where
-  kept : T (bit next set) → get_or d next 0 ≤ get_or d node 0 → get_or d next 0 ≤ get_or d other 0 → Choosing set rest' d next
-  kept is l m = record {
-    fits = omega (arith, t.fewer, c.fits);
+module _ {set rest : ℕ} {d : List ℕ} {node other rest' : ℕ} (c : Choosing set rest d node) (t : Taken rest other rest') where
+  kept : (next : ℕ) → T (bit next set) → get_or d next 0 ≤ get_or d node 0 → get_or d next 0 ≤ get_or d other 0 → Choosing set rest' d next
+  kept next is l m = record {
     part = λ w r. c.part w (t.kept w r);
     is = is;
     least = λ w r. ⊎_elim
@@ -43,15 +40,11 @@ module _ {set rest : ℕ} {d : List ℕ} {node other next rest' : ℕ} (c : Choo
         (c.least w r);
   }
 
-  pub choose_other : next ≡ other → get_or d other 0 < get_or d node 0 → Choosing set rest' d next
-  choose_other e l =
-      let z = ap (λ (x : ℕ). get_or d x 0) e in
-      kept (subst (λ (x : ℕ). T (bit x set)) (sym e) (c.part other t.is)) (omega arith) (omega arith)
+  pub choose_other : get_or d other 0 < get_or d node 0 → Choosing set rest' d other
+  choose_other l = kept other (c.part other t.is) (omega arith) (omega arith)
 
-  pub choose_same : next ≡ node → get_or d node 0 ≤ get_or d other 0 → Choosing set rest' d next
-  choose_same e l =
-      let z = ap (λ (x : ℕ). get_or d x 0) e in
-      kept (subst (λ (x : ℕ). T (bit x set)) (sym e) c.is) (omega arith) (omega arith)
+  pub choose_same : get_or d node 0 ≤ get_or d other 0 → Choosing set rest' d node
+  choose_same l = kept node c.is (omega arith) (omega arith)
 
 pub choose_end : {set rest : ℕ} {d : List ℕ} {node : ℕ} → Choosing set rest d node → rest ≡ 0 → Nearest set d node
 choose_end c e = record {

@@ -2,38 +2,19 @@
 -- Assumes nothing.
 use mathlib.Core.Path.{◌≡◌, refl, sym, ap, subst, ◌∙◌}
 use mathlib.Core.Logic.{◌⊎◌, inl, inr, ⊎_elim}
-use mathlib.Core.Bool.{Bool, true, false, not, beq}
 use mathlib.Core.List.{List}
-use Prim.Native.Nat.{ℕ, suc, ◌^◌, ◌<◌, ◌≤◌}
+use Prim.Native.Nat.{ℕ, suc, ◌*◌, ◌%◌, ◌^◌, ◌<◌, ◌≤◌}
 use native.Mathlib.Decide.{ℕ_discrete, dec_lt}
 use native.Mathlib.Omega.{arith}
 use lib.Bits.{bit_or}
 use lib.ListN.{length, get_or, set, length-set, replicate}
 use lib.Seq.{get_or-set_same, get_or-set_other}
 use lib.Dec.{T}
-use Rattle.plan.specs.Meaning.{Edge, Graph, Literals, edge, literal_of, graph_of}
-use Rattle.plan.specs.declared.Side.{Side}
-use Rattle.plan.specs.declared.Side.TheVariants.{Under, Over}
+use Rattle.plan.specs.Meaning.{Edge, Graph, edge}
 use Rattle.plan.proofs.Bools.{or_cases, or_left, or_right}
 use Rattle.walk.specs.Walking.{bit, Neighbours}
 use Rattle.walk.specs.Front.{LeadsBelow, UpTo}
-use Rattle.walk.proofs.Sets.{zeros, bit_empty, bit_or_lem, bit_one}
-
--- ---- whether an edge is in the graph
-
-beq_true : (r : Bool) → beq r true ≡ r
-beq_true true = refl
-beq_true false = refl
-
-beq_false : (r : Bool) → beq r false ≡ not r
-beq_false true = refl
-beq_false false = refl
-
--- the one comparison, by the side
-pub present : (side : Side) (b r : Bool) (S : Literals) (e : Edge) → ((side ≡ Under) × (b ≡ true)) ⊎ ((side ≡ Over) × (b ≡ false))
-    → r ≡ S (literal_of b e.variable) → beq r b ≡ graph_of side S e
-present side b r S e (inl x) h = rw (x.0, x.1) (beq_true r ∙ rw x.1 at h)
-present side b r S e (inr x) h = rw (x.0, x.1) (beq_false r ∙ ap not (rw x.1 at h))
+use Rattle.walk.proofs.Sets.{zeros, one_shifted, bit_empty, bit_or_lem, bit_one}
 
 -- ---- one edge more
 
@@ -60,7 +41,7 @@ module _ {es : List Edge} {g : Graph} {n : ℕ} {sets : List ℕ} (f : UpTo es g
     );
   }
 
-  module _ (from to : ℕ) (inside : from < 64) (listed : n < length es) (present : T (g (edge es n))) (starts : (edge es n).from ≡ from) (ends : (edge es n).to ≡ to) where
+  module _ (from to : ℕ) (inside : from < 64) (short : to < 64) (listed : n < length es) (present : T (g (edge es n))) (starts : (edge es n).from ≡ from) (ends : (edge es n).to ≡ to) where
     this : LeadsBelow (suc n) es g from to
     this = (record { number = n; listed = listed; present = present; starts = starts; ends = ends }, omega arith)
 
@@ -92,8 +73,8 @@ module _ {es : List Edge} {g : Graph} {n : ℕ} {sets : List ℕ} (f : UpTo es g
           (last d))
     ]
 
-    pub filled_put : UpTo es g (suc n) (set sets from (bit_or (get_or sets from 0) (2 ^ to)))
-    filled_put = record {
+    with_this : UpTo es g (suc n) (set sets from (bit_or (get_or sets from 0) (2 ^ to)))
+    with_this = record {
       places = length-set sets from (bit_or (get_or sets from 0) (2 ^ to)) ∙ f.places;
       exact = λ u w l m. (
         (λ t. elim (ℕ_discrete u from) [
@@ -104,8 +85,12 @@ module _ {es : List Edge} {g : Graph} {n : ℕ} {sets : List ℕ} (f : UpTo es g
       );
     }
 
+    -- as the code writes it
+    pub filled_put : UpTo es g (suc n) (set sets from (bit_or (get_or sets from 0) ((1 * 2 ^ to) % 18446744073709551616)))
+    filled_put = rw (one_shifted to short) with_this
+
 -- all edges
-pub filled_all : (es : List Edge) (g : Graph) (n : ℕ) (sets : List ℕ) → UpTo es g n sets → length es ≤ n → Neighbours es g sets
-filled_all es g n sets f h = record {
+pub filled_all : {es : List Edge} {g : Graph} {n : ℕ} {sets : List ℕ} → UpTo es g n sets → length es ≤ n → Neighbours es g sets
+filled_all f h = record {
   exact = λ u w l m. ((λ t. ((f.exact u w l m).0 t).0), (λ d. (f.exact u w l m).1 (d, omega (arith, d.listed))));
 }

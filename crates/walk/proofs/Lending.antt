@@ -5,14 +5,17 @@ use mathlib.Core.List.{List, Memᴰ}
 use Prim.Native.Nat.{ℕ, ◌≤◌, ◌<◌}
 use native.Mathlib.Omega.{arith}
 use lib.IntN.{ℤ}
+use lib.ListN.{length}
 use Rattle.plan.specs.Meaning.{Atom}
 use Rattle.plan.specs.Tables.{edges_of, atoms_of, Lent}
-use Rattle.plan.specs.Ranged.{max_atoms}
+use Rattle.plan.specs.Ranged.{max_atoms, max_edges}
 use Rattle.plan.specs.declared.Plan.{Plan}
-use Rattle.plan.proofs.Tables.{atoms_length}
+use Rattle.plan.specs.declared.Edge as struct-of-edge
+use Rattle.plan.specs.declared.Atom as struct-of-atom
+use Rattle.plan.proofs.ByPlace.{atoms_length}
 use Rattle.walk.specs.Walking.{Inside, Placed}
 
-module _ {p : Plan} {es bs : List ℕ} {cs : List ℤ} (l : Lent p es bs cs) where
+module _ {p : Plan} {es : List struct-of-edge.Edge} {bs : List struct-of-atom.Atom} {cs : List ℤ} (l : Lent p es bs cs) where
   pub lent_inside : Inside (edges_of es)
   lent_inside e m =
       let f = l.ranged.edge e m in
@@ -32,4 +35,8 @@ module _ {p : Plan} {es bs : List ℕ} {cs : List ℤ} (l : Lent p es bs cs) whe
 
   -- and there are at most 64 of them
   pub lent_few : p.atoms ≤ max_atoms
-  lent_few = omega (arith, atoms_length bs p.atoms l.atoms, l.ranged.atoms)
+  lent_few = omega (arith, atoms_length bs, l.atoms, l.ranged.atoms)
+
+  -- and so many edges as a file may have
+  pub edges_few : length (edges_of es) ≤ max_edges
+  edges_few = l.ranged.edges

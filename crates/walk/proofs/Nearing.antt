@@ -6,24 +6,18 @@ use mathlib.Core.List.{List}
 use Prim.Native.Nat.{ℕ, suc, ◌+◌, ◌*◌, ◌-◌, ◌^◌, ◌<◌, ◌≤◌}
 use native.Mathlib.Omega.{arith}
 use lib.Bits.{bit_and, bit_or, or_lt}
-use lib.ListN.{length, get_or, set, length-set}
+use lib.ListN.{length, get_or, set}
 use lib.Seq.{get_or-set_same}
 use lib.Pow.{pow-lt}
 use lib.Dec.{T}
-use Rattle.plan.specs.Meaning.{Edge, Graph, Leads, edge, Walk, stay, hop, own_length, no_edge}
+use Rattle.plan.specs.Meaning.{Edge, Graph, Leads, edge, Walk, stay, hop, own_length}
 use Rattle.plan.specs.Ranged.{max_length}
-use Rattle.plan.specs.Tables.{edges_of}
 use Rattle.plan.proofs.Bools.{T?, T_same}
-use Rattle.plan.proofs.Tables.{edges_at, edges_most}
-use Rattle.walk.specs.Walking.{bit, DistanceTable, Room}
+use Rattle.walk.specs.Walking.{bit, DistanceTable}
 use Rattle.walk.specs.Front.{size}
 use Rattle.walk.specs.Nearest.{Nearest, Relaxed}
 use Rattle.walk.proofs.Sets.{bit_empty, bit_inside, bit_one, bit_without, bits_same, more_old, more_which, size_or, size_one}
-use Rattle.walk.proofs.Reach.{set_table}
-
--- an edge's length, in a table of so small numbers
-pub length_fits : (l : List ℕ) → ((i : ℕ) → get_or l i 0 ≤ max_length) → (k : ℕ) → k < length (edges_of l) → (edge (edges_of l) k).length ≤ max_length
-length_fits l h k b = omega (arith, ap (λ e. e.length) (edges_at l k no_edge (omega (arith, edges_most l))), h (k * 4 + 2))
+use Rattle.walk.proofs.Truths.{table_of}
 
 -- Known nodes have a distance, of some walk at least; a node that is done has had its edges taken, and is no farther than one that is not done.
 pub record Dijkstra (es : List Edge) (g : Graph) (s known done : ℕ) (d : List ℕ) : Type 0 where
@@ -36,11 +30,10 @@ pub record Dijkstra (es : List Edge) (g : Graph) (s known done : ℕ) (d : List 
   pub low : (w : ℕ) → T (bit w known) → get_or d w 0 ≤ size done * max_length
   pub known_fits : known < 2 ^ 64
   pub done_fits : done < 2 ^ 64
-  pub long : Room d
 
 -- ---- where the walk begins
 
-pub begin : (es : List Edge) (g : Graph) (s known : ℕ) (d : List ℕ) → s < 64 → Room d → known ≡ 2 ^ s → Dijkstra es g s known 0 (set d s 0)
+pub begin : (es : List Edge) (g : Graph) (s known : ℕ) (d : List ℕ) → s < 64 → length d ≡ 64 → known ≡ 2 ^ s → Dijkstra es g s known 0 (set d s 0)
 begin es g s known d l room e = record {
   part = λ w t. absurd (bit_empty w t);
   source = subst (λ (x : ℕ). T (bit s x)) (sym e) ((bit_one s s).1 refl);
@@ -51,7 +44,6 @@ begin es g s known d l room e = record {
   low = λ w t. omega (arith, none w (only w t));
   known_fits = omega (arith, e, pow-lt l);
   done_fits = omega arith;
-  long = length-set d s 0 ∙ room;
 }
   where
     only : (w : ℕ) → T (bit w known) → w ≡ s
@@ -83,8 +75,7 @@ module _ {es : List Edge} {g : Graph} {s known done : ℕ} {d : List ℕ} (v : D
     pub one_more : size (bit_or done (2 ^ node)) ≡ suc (size done)
     one_more = omega (arith, size_or 64 done (2 ^ node) (λ i t o. chosen.1 (subst (λ (x : ℕ). T (bit x done)) ((bit_one i node).0 o) t)), size_one 64 node node_in)
 
-    module _ {known' : ℕ} {d' : List ℕ} (r : Relaxed es g (length es) node known d known' d') (fits : known' < 2 ^ 64)
-        (lengths : (k : ℕ) → k < length es → (edge es k).length ≤ max_length) where
+    module _ {known' : ℕ} {d' : List ℕ} (r : Relaxed es g (length es) node known d known' d') (fits : known' < 2 ^ 64) where
       -- who is done is no farther than the node, and keeps its distance
       done_near : (u : ℕ) → T (bit u (bit_or done (2 ^ node))) → T (bit u known) × (get_or d u 0 ≤ get_or d node 0)
       done_near u t = ⊎_elim
@@ -126,11 +117,10 @@ module _ {es : List Edge} {g : Graph} {s known done : ℕ} {d : List ℕ} (v : D
             (r.by w k);
         low = λ w t. ⊎_elim
             (λ p. omega (arith, p.1, v.low w p.0, one_more))
-            (λ p. omega (arith, p.1, node_low, lengths p.0.number p.0.listed, one_more))
+            (λ p. omega (arith, p.1, p.2, node_low, one_more))
             (r.by w t);
         known_fits = fits;
         done_fits = or_lt 64 done (2 ^ node) v.done_fits (pow-lt node_in);
-        long = r.long ∙ v.long;
       }
 
 -- ---- once all known nodes are done
@@ -144,5 +134,5 @@ module _ {es : List Edge} {g : Graph} {s known : ℕ} {d : List ℕ} (v : Dijkst
       let c = v.closed u w o.0 e in
       (c.0, omega (arith, p, c.1, o.1))
 
-  pub table : DistanceTable own_length es g s (set d 64 known)
-  table = set_table known d v.long v.known_fits v.sound (λ w k r. reach r)
+  pub table : DistanceTable own_length es g s (record { far = d; reached = known })
+  table = table_of _ v.sound (λ w k r. reach r)

@@ -1,15 +1,14 @@
 -- Choosing from a set, part by part, its elements that have a property: what holds while parts are taken out of it, and why one part more keeps it.
 -- Assumes nothing.
-use mathlib.Core.Path.{◌≡◌, sym, ap, ◌∙◌, subst}
+use mathlib.Core.Path.{◌≡◌, sym, subst}
 use mathlib.Core.Logic.{◌⊎◌, inl, inr, ⊎_elim, ◌≢◌}
-use Prim.Native.Nat.{ℕ, ◌*◌, ◌-◌, ◌%◌, ◌^◌, ◌<◌}
+use Prim.Native.Nat.{ℕ, ◌-◌, ◌%◌, ◌^◌, ◌<◌}
 use native.Mathlib.Omega.{arith}
-use lib.Bits.{bit_and, bit_or, and_le_l, or_zero_r}
-use lib.Count.{count_trailing_zeros}
+use lib.Bits.{bit_and, bit_or, and_le_l}
 use lib.Dec.{T}
 use Rattle.plan.proofs.Bools.{T?, or_cases, or_left, or_right}
 use Rattle.walk.specs.Walking.{bit, Those}
-use Rattle.walk.proofs.Sets.{bit_empty, bit_one, bit_or_lem, bit_without, one_shifted, taken}
+use Rattle.walk.proofs.Sets.{bit_empty, bit_or_lem, bit_without, taken}
 
 -- the elements of X, some of those of `rest`, are taken out of it
 pub record Less (X rest rest' : ℕ) : Type 0 where
@@ -17,17 +16,6 @@ pub record Less (X rest rest' : ℕ) : Type 0 where
   pub others : (k : ℕ) → T (bit k rest) → (T (bit k X) → ⊥) → T (bit k rest')
   pub kept : (k : ℕ) → T (bit k rest') → T (bit k rest)
   pub fewer : rest' < rest
-
--- the lowest one
-pub less_first : (rest : ℕ) → rest < 2 ^ 64 → rest ≢ 0 → Less (2 ^ count_trailing_zeros 64 rest) rest (bit_and rest (rest - 1))
-less_first rest fits some =
-    let t = taken rest fits some in
-    record {
-      inside = λ k u. subst (λ (y : ℕ). T (bit y rest)) (sym ((bit_one k (count_trailing_zeros 64 rest)).0 u)) t.is;
-      others = λ k u n. ⊎_elim (λ e. absurd (n ((bit_one k (count_trailing_zeros 64 rest)).1 e))) (λ r. r) (t.other k u);
-      kept = t.kept;
-      fewer = t.fewer;
-    }
 
 -- all of a part that has one
 pub less_part : (rest X i : ℕ) → rest < 2 ^ 64 → X < 2 ^ 64 → ((k : ℕ) → T (bit k X) → T (bit k rest)) → T (bit i X) → Less X rest (bit_and rest (2 ^ 64 - 1 - X))
@@ -80,20 +68,3 @@ module _ (P : ℕ → Type 0) where
           (T? (bit k X)))
           (c.all k t p);
     }
-
-    -- the lowest is taken out, and chosen where it has the property
-    pub chosen_lowest : (those' : ℕ) → rest ≢ 0
-        → (P (count_trailing_zeros 64 rest) × (those' ≡ bit_or those ((1 * 2 ^ count_trailing_zeros 64 rest) % 18446744073709551616))) ⊎ ((P (count_trailing_zeros 64 rest) → ⊥) × (those' ≡ those))
-        → Chosen P asked those' (bit_and rest (rest - 1))
-    chosen_lowest those' some h = ⊎_elim
-        (λ y. subst (λ (t : ℕ). Chosen P asked t (bit_and rest (rest - 1))) (sym (y.1 ∙ ap (λ (z : ℕ). bit_or those z) (one_shifted k (taken rest l.fits some).inside)))
-        (chosen_more (2 ^ k) (2 ^ k) _ x (λ j. ((λ t. (t, subst P (sym ((bit_one j k).0 t)) y.0)), (λ t. t.0)))))
-        (λ y. subst (λ (t : ℕ). Chosen P asked t (bit_and rest (rest - 1))) (or_zero_r those ∙ sym y.1)
-        (chosen_more (2 ^ k) 0 _ x (λ j. ((λ t. absurd (bit_empty j t)), (λ t. absurd (y.0 (subst P ((bit_one j k).0 t.0) t.1)))))))
-        h
-      where
-        k : ℕ
-        k = count_trailing_zeros 64 rest
-
-        x : Less (2 ^ k) rest (bit_and rest (rest - 1))
-        x = less_first rest l.fits some

@@ -13,7 +13,9 @@ use lib.Seq.{get_or-set_same, get_or-set_other}
 use lib.Dec.{T, ltb, ltb→lt, nltb→le, T_not, not_T}
 use Rattle.plan.specs.Meaning.{Edge, Graph, Leads, edge}
 use Rattle.plan.specs.Places.{First}
+use Rattle.plan.specs.Ranged.{max_length}
 use Rattle.plan.proofs.Bools.{T?, or_cases, or_left, or_right}
+use Rattle.walk.specs.declared.lengths.Chains as lengths
 use Rattle.walk.specs.Walking.{bit, Starts, Chained}
 use Rattle.walk.specs.Nearest.{is_better, lowered, Relaxed}
 use Rattle.walk.proofs.Sets.{more_old, more_new, more_which}
@@ -67,8 +69,8 @@ pub record Relaxing (es : List Edge) (g : Graph) (node known : ℕ) (d : List �
   pub starts : k < length es → Starts es g node k
   pub done : Relaxed es g k node known d known' d'
 
-module _ {es : List Edge} {g : Graph} {t : List ℕ} (c : Chained es g t) {node known : ℕ} {d : List ℕ} where
-  pub relax_start : (inside : node < 64) → Relaxing es g node known d (get_or t node 0) known d
+module _ {es : List Edge} {g : Graph} {t : lengths.Chains} (c : Chained es g t) {node known : ℕ} {d : List ℕ} where
+  pub relax_start : (inside : node < 64) → Relaxing es g node known d (get_or t.first node 0) known d
   relax_start inside =
       let f = c.first node inside in
       record {
@@ -85,10 +87,10 @@ module _ {es : List Edge} {g : Graph} {t : List ℕ} (c : Chained es g t) {node 
 
   module _ {k known' : ℕ} {d' : List ℕ} (r : Relaxing es g node known d k known' d') (listed : k < length es) where
     -- the next one of the node
-    pub next_of : First (Starts es g node) (suc k) (length es) (get_or t (64 + k) 0)
-    next_of = subst (λ u. First (Starts es g u) (suc k) (length es) (get_or t (64 + k) 0)) (r.starts listed).1 (c.next k listed (r.starts listed).0)
+    pub next_of : First (Starts es g node) (suc k) (length es) (get_or t.next k 0)
+    next_of = subst (λ u. First (Starts es g u) (suc k) (length es) (get_or t.next k 0)) (r.starts listed).1 (c.next k listed (r.starts listed).0)
 
-    module _ (e : Edge) (is : e ≡ edge es k) (room : e.to < length d) where
+    module _ (e : Edge) (is : e ≡ edge es k) (short : e.length ≤ max_length) (room : e.to < length d) where
       after : List ℕ
       after = lowered known' e.to (get_or d node 0 + e.length) d'
 
@@ -113,18 +115,18 @@ module _ {es : List Edge} {g : Graph} {t : List ℕ} (c : Chained es g t) {node 
 
       -- where a node's distance comes from: as before, or from this edge
       abbrev By : ℕ → Type 0
-      By w = (T (bit w known) × (get_or after w 0 ≡ get_or d w 0)) ⊎ ((i : Leads es g node w) × (get_or after w 0 ≡ get_or d node 0 + (edge es i.number).length))
+      By w = (T (bit w known) × (get_or after w 0 ≡ get_or d w 0)) ⊎ ((i : Leads es g node w) × (get_or after w 0 ≡ get_or d node 0 + (edge es i.number).length) × ((edge es i.number).length ≤ max_length))
 
       by_before : (w : ℕ) → T (bit w known') → get_or after w 0 ≡ get_or d' w 0 → By w
-      by_before w t q = ⊎_elim (λ p. inl (p.0, q ∙ p.1)) (λ p. inr (p.0, q ∙ p.1)) (r.done.by w t)
+      by_before w t q = ⊎_elim (λ p. inl (p.0, q ∙ p.1)) (λ p. inr (p.0, q ∙ p.1, p.2)) (r.done.by w t)
 
       by_end : By e.to
       by_end = ⊎_elim
-          (λ a. inr (record { number = k; listed = listed; present = (r.starts listed).0; starts = (r.starts listed).1; ends = sym (ap (λ x. x.to) is) }, a.0 ∙ ap (λ x. get_or d node 0 + x.length) is))
+          (λ a. inr (record { number = k; listed = listed; present = (r.starts listed).0; starts = (r.starts listed).1; ends = sym (ap (λ x. x.to) is) }, a.0 ∙ ap (λ x. get_or d node 0 + x.length) is, omega (arith, short, ap (λ x. x.length) is)))
           (λ a. by_before e.to a.0 a.1)
           at_end
 
-      pub relax_turn : Relaxing es g node known d (get_or t (64 + k) 0) (bit_or known' (2 ^ e.to)) (lowered known' e.to (get_or d node 0 + e.length) d')
+      pub relax_turn : Relaxing es g node known d (get_or t.next k 0) (bit_or known' (2 ^ e.to)) (lowered known' e.to (get_or d node 0 + e.length) d')
       unfolding after
       relax_turn = record {
         inside = next_of.inside;

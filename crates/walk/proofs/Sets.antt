@@ -16,6 +16,7 @@ use lib.Pow.{pow_pos, pow-lt}
 use Rattle.plan.proofs.Bools.{T_same, or_cases, or_left, or_right, and_both, and_left, and_right}
 use Rattle.walk.specs.Walking.{bit}
 use Rattle.walk.specs.Front.{size_in}
+use Rattle.walk.specs.Members.{Lowest}
 
 twice : (i : ℕ) → 2 ^ suc i ≡ 2 * 2 ^ i
 twice i = pow-suc 2 i ∙ omega arith
@@ -253,6 +254,10 @@ taken x f n = rw (less_lowest 64 x f n) (record {
     low : T (bit (count_trailing_zeros 64 x) x)
     low = lowest 64 x f n
 
+-- as a walk over the members takes it
+pub taken_lowest : {x k rest : ℕ} → Lowest x k rest → Taken x k rest
+taken_lowest {x} l = rw (l.first, l.others) (taken x l.fits l.some)
+
 -- ---- how many nodes a set has
 
 pub size_le : (k x : ℕ) → size_in k x ≤ k
@@ -272,6 +277,10 @@ size_less (suc k) zero x l t =
     let h : (x - 2 ^ 0) / 2 ≡ x / 2 = omega (arith, odd x t) in
     omega (arith, odd x t, ap (size_in k) h)
 size_less (suc k) (suc i) x l t = omega (arith, odd_less i x t, ap (size_in k) (half_less i x t), size_less k i (x / 2) (omega arith) t)
+
+-- without its lowest
+pub size_lowest : {x k rest : ℕ} → Lowest x k rest → size_in 64 x ≡ suc (size_in 64 rest)
+size_lowest {x} l = let t = taken x l.fits l.some in rw (l.others, less_lowest 64 x l.fits l.some) (size_less 64 _ x t.inside t.is)
 
 pub size_or : (k a b : ℕ) → ((i : ℕ) → T (bit i a) → T (bit i b) → ⊥) → size_in k (bit_or a b) ≡ size_in k a + size_in k b
 unfolding bit size_in

@@ -1,3 +1,5 @@
 pub mod Walking
+pub mod Given
 pub mod Front
 pub mod Nearest
+pub mod Members

@@ -3,13 +3,15 @@
 use Rattle.std.specs.Prelude.{◌≡◌, ◌⊎◌, Bool, not, cond, ◌||◌, List, ℕ, suc, ◌+◌, ◌<◌, ◌≤◌, length, get_or, set, T, ltb}
 use Rattle.plan.specs.Meaning.{Edge, Graph, Leads, edge}
 use Rattle.plan.specs.Places.{First}
+use Rattle.plan.specs.Ranged.{max_length}
+use Rattle.walk.specs.declared.lengths.Chains as lengths
 use Rattle.walk.specs.Walking.{bit, Starts, Chained}
 
 -- The chains of the edges from number n on.
-pub record ChainedFrom (es : List Edge) (g : Graph) (n : ℕ) (t : List ℕ) : Type 0 where
-  pub places : length t ≡ 320
-  pub first : (u : ℕ) → u < 64 → First (Starts es g u) n (length es) (get_or t u 0)
-  pub next : (k : ℕ) → n ≤ k → k < length es → T (g (edge es k)) → First (Starts es g (edge es k).from) (suc k) (length es) (get_or t (64 + k) 0)
+pub record ChainedFrom (es : List Edge) (g : Graph) (n : ℕ) (t : lengths.Chains) : Type 0 where
+  pub places : (length t.first ≡ 64) × (length t.next ≡ 256)
+  pub first : (u : ℕ) → u < 64 → First (Starts es g u) n (length es) (get_or t.first u 0)
+  pub next : (k : ℕ) → n ≤ k → k < length es → T (g (edge es k)) → First (Starts es g (edge es k).from) (suc k) (length es) (get_or t.next k 0)
 
 -- The node is one of the set, and no other is nearer.
 pub record Nearest (set : ℕ) (d : List ℕ) (node : ℕ) : Type 0 where
@@ -30,8 +32,8 @@ pub record Relaxed (es : List Edge) (g : Graph) (n node known : ℕ) (d : List �
   pub nearer : (w : ℕ) → T (bit w known) → get_or d' w 0 ≤ get_or d w 0
   pub taken : (w : ℕ) (e : Leads es g node w) → e.number < n → T (bit w known') × (get_or d' w 0 ≤ get_or d node 0 + (edge es e.number).length)
   pub by : (w : ℕ) → T (bit w known')
-      → (T (bit w known) × (get_or d' w 0 ≡ get_or d w 0)) ⊎ ((e : Leads es g node w) × (get_or d' w 0 ≡ get_or d node 0 + (edge es e.number).length))
+      → (T (bit w known) × (get_or d' w 0 ≡ get_or d w 0)) ⊎ ((e : Leads es g node w) × (get_or d' w 0 ≡ get_or d node 0 + (edge es e.number).length) × ((edge es e.number).length ≤ max_length))
 
 -- All of them, of whatever graph the chains are.
-abbrev pub Relaxes : List Edge → List ℕ → ℕ → ℕ → List ℕ → ℕ → List ℕ → Type 0
+abbrev pub Relaxes : List Edge → lengths.Chains → ℕ → ℕ → List ℕ → ℕ → List ℕ → Type 0
 Relaxes es t node known d known' d' = (g : Graph) → Chained es g t → Relaxed es g (length es) node known d known' d'

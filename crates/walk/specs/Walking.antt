@@ -1,6 +1,6 @@
 -- What the walks answer, over the meaning of crate `plan`. How it is found is left open.
 -- Assumes nothing.
-use Rattle.std.specs.Prelude.{◌≡◌, ◌↔◌, Bool, true, false, ℕ, zero, suc, ◌+◌, ◌%◌, ◌/◌, ◌<◌, ◌≤◌, length, get_or, ℤ, T, eqb}
+use Rattle.std.specs.Prelude.{◌≡◌, ◌↔◌, Bool, true, false, ℕ, zero, suc, ◌%◌, ◌/◌, ◌<◌, ◌≤◌, length, get_or, ℤ, T, eqb}
 use mathlib.Core.List.{List, Memᴰ}
 use Rattle.plan.specs.Meaning.{Edge, Atom, PlanFile, Graph, Leads, edge, atom, Cost, Distance, one_hop, own_length, measure_of, cost_of, IsTrue, true_in, graph_of}
 use Rattle.plan.specs.Places.{First}
@@ -8,6 +8,8 @@ use Rattle.plan.specs.Ranged.{max_edges, max_atoms}
 use Rattle.plan.specs.Closing.{settling, Settled}
 use Rattle.plan.specs.declared.Measure.TheVariants.{Lengths}
 use Rattle.plan.specs.declared.State.{State}
+use Rattle.walk.specs.declared.distances.Distances.{Distances}
+use Rattle.walk.specs.declared.lengths.Chains as lengths
 
 -- A set of nodes as the binary digits of one number: whether i is in the set x.
 unfoldable pub bit : ℕ → ℕ → Bool
@@ -30,51 +32,45 @@ pub record Neighbours (es : List Edge) (g : Graph) (sets : List ℕ) : Type 0 wh
 abbrev pub Starts : List Edge → Graph → ℕ → ℕ → Type 0
 Starts es g u k = T (g (edge es k)) × ((edge es k).from ≡ u)
 
--- The chains of a graph's edges: at place u the number of the first that starts at u; at place 64 + k, for an edge k of the graph, that of the next
--- one with the same start. The count of the edges stands for none.
-pub record Chained (es : List Edge) (g : Graph) (t : List ℕ) : Type 0 where
-  pub first : (u : ℕ) → u < 64 → First (Starts es g u) 0 (length es) (get_or t u 0)
-  pub next : (k : ℕ) → k < length es → T (g (edge es k)) → First (Starts es g (edge es k).from) (suc k) (length es) (get_or t (64 + k) 0)
+-- The chains of a graph's edges: for each node u the number of the first that starts at u; for an edge k of the graph that of the next one with the
+-- same start. The count of the edges stands for none.
+pub record Chained (es : List Edge) (g : Graph) (t : lengths.Chains) : Type 0 where
+  pub first : (u : ℕ) → u < 64 → First (Starts es g u) 0 (length es) (get_or t.first u 0)
+  pub next : (k : ℕ) → k < length es → T (g (edge es k)) → First (Starts es g (edge es k).from) (suc k) (length es) (get_or t.next k 0)
 
 -- They are those of some graph of at most so many edges as a file has, between nodes.
-pub record Chains (es : List Edge) (t : List ℕ) : Type 0 where
+pub record AreChains (es : List Edge) (t : lengths.Chains) : Type 0 where
   pub graph : Graph
   pub chained : Chained es graph t
   pub inside : Inside es
   pub few : length es ≤ max_edges
 
--- The distances from one node as they stand in a table: that of node w at place w, and at place 64 the set of the nodes that are reached.
-abbrev pub reached_in : List ℕ → ℕ → Bool
-reached_in d w = bit w (get_or d 64 0)
+-- The distances from one node as they stand in a table: whether a node is reached, and how far it is.
+abbrev pub reached_in : Distances → ℕ → Bool
+reached_in d w = bit w d.reached
 
-abbrev pub distance_in : List ℕ → ℕ → ℕ
-distance_in d w = get_or d w 0
+abbrev pub distance_in : Distances → ℕ → ℕ
+distance_in d w = get_or d.far w 0
 
 -- A node is reached, with the distance k, exactly if it is k from s. What stands at a node that is not reached says nothing.
-pub record DistanceTable (c : Cost) (es : List Edge) (g : Graph) (s : ℕ) (d : List ℕ) : Type 0 where
+pub record DistanceTable (c : Cost) (es : List Edge) (g : Graph) (s : ℕ) (d : Distances) : Type 0 where
   pub number : (w k : ℕ) → (T (reached_in d w) × (distance_in d w ≡ k)) ↔ Distance c es g s w k
 
--- A table that a walk is written into has all its places.
-abbrev pub Room : List ℕ → Type 0
-Room d = length d ≡ 65
-
--- What the functions promise, of whatever graph the sets and tables are. The table can be walked into again.
-pub record Walked (sets : List ℕ) (s : ℕ) (d : List ℕ) : Type 0 where
+-- What the functions promise, of whatever graph the sets and chains are.
+pub record Walked (sets : List ℕ) (s : ℕ) (d : Distances) : Type 0 where
   pub table : (es : List Edge) (g : Graph) → Inside es → Neighbours es g sets → DistanceTable one_hop es g s d
-  pub room : Room d
 
-pub record LengthWalked (es : List Edge) (t : List ℕ) (s : ℕ) (d : List ℕ) : Type 0 where
+pub record LengthWalked (es : List Edge) (t : lengths.Chains) (s : ℕ) (d : Distances) : Type 0 where
   pub table : (g : Graph) → Chained es g t → DistanceTable own_length es g s d
-  pub room : Room d
 
-abbrev pub Truth : Atom → List ℕ → Bool → Type 0
+abbrev pub Truth : Atom → Distances → Bool → Type 0
 Truth A d r = (es : List Edge) (g : Graph) → DistanceTable (cost_of A.kind) es g A.from d → T r ↔ IsTrue es g A
 
 -- The table is of the graph that settles whether the atom holds (true) or fails (false).
-abbrev pub Settling : List Edge → List ℤ → Atom → Bool → List ℕ → Type 0
+abbrev pub Settling : List Edge → List ℤ → Atom → Bool → Distances → Type 0
 Settling es a A b d = DistanceTable (cost_of A.kind) es (graph_of (settling A.kind b) (true_in a)) A.from d
 
-abbrev pub SettledBy : Atom → List ℕ → List ℕ → State → Type 0
+abbrev pub SettledBy : Atom → Distances → Distances → State → Type 0
 SettledBy A u o r = (φ : PlanFile) (a : List ℤ) → Settling φ.edges a A true u → Settling φ.edges a A false o → Settled φ (true_in a) A r
 
 -- Of a set of atoms, by their numbers from 0, those with the property P.
@@ -89,7 +85,7 @@ pub record LengthAtoms (As : List Atom) (asked : ℕ) : Type 0 where
   pub lengths : (k : ℕ) → T (bit k asked) → measure_of (atom As k).kind ≡ Lengths
 
 -- Those that are true by the distances from their source.
-abbrev pub TrueBy : List Atom → ℕ → List ℕ → ℕ → Type 0
+abbrev pub TrueBy : List Atom → ℕ → Distances → ℕ → Type 0
 TrueBy As asked d r = (es : List Edge) (g : Graph) → ((k : ℕ) → T (bit k asked) → DistanceTable own_length es g (atom As k).from d) → Those (λ k. IsTrue es g (atom As k)) asked r
 
 -- The set of those of the first `count` atoms that count lengths.

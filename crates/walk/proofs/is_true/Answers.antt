@@ -7,13 +7,12 @@ pub returns-then-not-is_reached : goal.returns-then-not-is_reached
 returns-then-not-is_reached c =
     λ es g x. (
       (λ z. absurd z),
-      true_none (atom_of c.args.atom) x (λ t. not_so c.is_reached.ensures c.if-not-is_reached.true (rw c.wide-to.ensures t)),
+      true_none (atom_of c.args.atom) x (λ t. not_so c.is_reached.ensures c.if-not-is_reached.true (rw c.from-to.ensures t)),
     )
 
 pub returns : goal.returns
 returns c =
-    let A = atom_of c.args.atom in
     λ es g x.
-    let t = true_allowed A x (rw c.wide-to.ensures at (so c.is_reached.ensures c.if-not-is_reached.false)) in
-    let r = rw (c.distance.ensures, c.wide-to.ensures) at c.allows.ensures in
+    let t = true_allowed (atom_of c.args.atom) x (rw c.from-to.ensures at (so c.is_reached.ensures c.if-not-is_reached.false)) in
+    let r = rw (c.distance.ensures, c.from-to.ensures) at c.allows.ensures in
     ((λ y. t.0 (r.0 y)), (λ y. r.1 (t.1 y)))

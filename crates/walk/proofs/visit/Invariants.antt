@@ -1,15 +1,10 @@
-use mathlib.Core.Path.{◌≡◌}
+-- `walk::visit`: whatever the visits of what is left do behind this point, the visits of all do from the start on.
 use mathlib.Core.List.{List}
-use Prim.Native.Nat.{ℕ, ◌+◌, ◌^◌, ◌<◌, ◌≤◌}
-use lib.ListN.{length}
-use Rattle.walk.specs.Walking.{Room}
+use Prim.Native.Nat.{ℕ, ◌+◌, ◌≤◌}
 use Rattle.walk.specs.Front.{size, Visited}
 use Rattle.walk.proofs.visit.Given as goal
 
-abbrev pub invariant-loop-rest : goal.invariant-loop-rest
-invariant-loop-rest l =
-    (l.end + size l.rest ≤ 64) × (l.rest < 2 ^ 64) × Room l.counts × (length l.queue ≡ 64)
-    × ((e : ℕ) (C Q : List ℕ) → Visited l.rest l.count l.end l.counts l.queue e C Q → Visited l.new l.count l.tail l.initial.counts l.initial.queue e C Q)
-
-abbrev pub decreases-loop-rest : goal.decreases-loop-rest
-decreases-loop-rest l = l.rest
+abbrev pub invariant-loop-node : goal.invariant-loop-node
+invariant-loop-node l =
+    (l.end + size l.node-iterator.0 ≤ 64)
+    × ((e : ℕ) (C Q : List ℕ) → Visited l.node-iterator.0 l.count l.end l.far l.queue e C Q → Visited l.new l.count l.tail l.initial.far l.initial.queue e C Q)

@@ -18,11 +18,12 @@ lowers known node k d best (inr x) = rw (x.0, x.1) (set-get_or d node 0)
 
 pub returns : goal.returns
 returns c =
-    let w = c.wide-to.ensures in
+    let w = c.from-to.ensures in
+    let l = c.from.ensures in
     let a = c.args in
     rw w
-    (lowers a.known a.edge.to (a.near + a.edge.length) a.distances.now c.if-is_better.best
+    (lowers a.known a.edge.to (a.near + a.edge.length) a.far.now c.if-is_better.best
     (elim c.if-is_better.branch [
-      | then-is_better t ↦ inl (rw w at (sym c.is_better.ensures ∙ t.if-is_better.true), t.best-is)
-      | else-is_better e ↦ inr (rw w at (sym c.is_better.ensures ∙ e.if-is_better.false), rw w at e.best-is)
+      | then-is_better t ↦ inl (rw (w, l) at (sym c.is_better.ensures ∙ t.if-is_better.true), rw l at t.best-is)
+      | else-is_better e ↦ inr (rw (w, l) at (sym c.is_better.ensures ∙ e.if-is_better.false), rw w at e.best-is)
     ]))

@@ -1,71 +1,47 @@
 -- `walk::lengths::relax`: along the chain, so the edges of the node that come before the next one are taken.
-use mathlib.Core.Path.{◌≡◌, ◌∙◌}
-use mathlib.Core.List.{List}
-use Prim.Native.Nat.{suc, ◌+◌, ◌/◌, ◌<◌, ℕ}
+use Prim.Native.Nat.{suc, ◌<◌}
 use native.Mathlib.Omega.{arith}
 use lib.ListN.{length, get_or}
-use Rattle.plan.specs.Meaning.{Edge, Graph, edge}
+use Rattle.plan.specs.Tables.{edge_of, edges_of}
 use Rattle.plan.specs.Places.{First}
-use Rattle.plan.specs.Tables.{edges_of, edge_of}
-use Rattle.walk.specs.Walking.{Starts, Chained, Chains}
+use Rattle.plan.proofs.ByPlace.{blank_edge, edges_length, edges_at}
+use Rattle.walk.specs.Walking.{Starts}
+use Rattle.walk.proofs.Reading.{ends_in}
 use Rattle.walk.proofs.Sets.{one_shifted}
-use Rattle.walk.proofs.Chaining.{edges_count, its_listed}
-use Rattle.walk.proofs.Relaxing.{Relaxing, relax_start, next_of, relax_turn, relax_end}
+use Rattle.walk.proofs.Relaxing.{relax_start, next_of, relax_turn, relax_end}
 use Rattle.walk.proofs.lengths.relax.Goals as goal
+use Rattle.walk.proofs.lengths.relax.Goals.{In-loop-k}
 
--- the edge at hand is one of the table
-listed : (l : List ℕ) (k : ℕ) → k < length l / 4 → k < length (edges_of l)
-listed l k h = omega (arith, edges_count l)
+-- the edge at hand is one of the table, and behind it comes the next one of the node, in the graph that the chains are of
+module _ (c : In-loop-k) where
+  listed : c.loop-k.k < length (edges_of c.args.edges.now)
+  listed = omega (arith, edges_length c.args.edges.now, c.loop-k-test.true)
 
--- so its end is a node, and its place for the next edge is one of the chains'
-to_in : (l t : List ℕ) (k : ℕ) (e : Edge) → Chains (edges_of l) t → e ≡ edge (edges_of l) k → k < length l / 4 → e.to < 64
-to_in l t k e s q h = (s.inside e (its_listed l k e q (omega arith))).1
-
-placed : (l t : List ℕ) (k : ℕ) → Chains (edges_of l) t → k < length l / 4 → 64 + k < 320
-placed l t k s h = omega (arith, listed l k h, s.few)
-
--- behind it comes the next one of the node, in the graph that the chains are of
-next : (l t : List ℕ) (node known k known' : ℕ) (d d' : List ℕ) (s : Chains (edges_of l) t) → ((g : Graph) → Chained (edges_of l) g t → Relaxing (edges_of l) g node known d k known' d')
-    → k < length l / 4 → First (Starts (edges_of l) s.graph node) (suc k) (length (edges_of l)) (get_or t (64 + k) 0)
-next l t node known k known' d d' s r h = next_of s.chained (r s.graph s.chained) (listed l k h)
-
-pub overflow_cast-k : goal.overflow_cast-k
-overflow_cast-k c = omega (arith, (c.requires.chains.chained.first _ c.requires.node_bound).inside, c.requires.chains.few)
+  next : First (Starts (edges_of c.args.edges.now) c.requires.chains.graph c.args.node) (suc c.loop-k.k) (length (edges_of c.args.edges.now)) (get_or c.args.chains.now.next c.loop-k.k 0)
+  next = next_of c.requires.chains.chained (c.loop-k.invariant c.requires.chains.graph c.requires.chains.chained) listed
 
 pub loop-k-init : goal.loop-k-init
-loop-k-init c = λ g h. relax_start h c.requires.node_bound
+loop-k-init c = λ g h. rw c.from-k.ensures (relax_start h c.requires.node_bound)
 
-pub lower-requires : goal.lower-requires
-lower-requires c = record {
-  to_bound = to_in _ _ _ _ c.requires.chains c.edge_at-edge.ensures c.loop-k-test.true;
-  near_bound = c.requires.node_bound_2;
-  room = (c.loop-k.invariant c.requires.chains.graph c.requires.chains.chained).done.long ∙ c.requires.room;
-}
+pub lower-requires-clause-to_bound : goal.lower-requires-clause-to_bound
+lower-requires-clause-to_bound c = (ends_in _ _ _ (edges_at c.args.edges.now c.loop-k.k) c.loop-k-test.true c.requires.chains.inside).1
 
 pub overflow_shl-reached : goal.overflow_shl-reached
-overflow_shl-reached c = omega (arith, c.wide.ensures, to_in _ _ _ _ c.requires.chains c.edge_at-edge.ensures c.loop-k-test.true)
-
-pub overflow_add-k : goal.overflow_add-k
-overflow_add-k c = omega (arith, placed _ _ _ c.requires.chains c.loop-k-test.true)
-
-pub offset_bounds-chains-k : goal.offset_bounds-chains-k
-offset_bounds-chains-k c = omega (arith, placed _ _ _ c.requires.chains c.loop-k-test.true)
+overflow_shl-reached c = (ends_in _ _ _ (edges_at c.args.edges.now c.loop-k.k) c.loop-k-test.true c.requires.chains.inside).1
 
 pub bounds-chains-k : goal.bounds-chains-k
-bounds-chains-k c = omega (arith, placed _ _ _ c.requires.chains c.loop-k-test.true)
-
-pub overflow_cast-k-in-loop-k : goal.overflow_cast-k-in-loop-k
-overflow_cast-k-in-loop-k c = omega (arith, (next _ _ _ _ _ _ _ _ c.requires.chains c.loop-k.invariant c.loop-k-test.true).inside, c.requires.chains.few)
+bounds-chains-k c = omega (arith, c.loop-k-test.true, edges_length c.args.edges.now, c.requires.chains.few)
 
 pub loop-k-smaller : goal.loop-k-smaller
-loop-k-smaller c = omega (arith, (next _ _ _ _ _ _ _ _ c.requires.chains c.loop-k.invariant c.loop-k-test.true).after, c.loop-k-test.true)
+loop-k-smaller c = omega (arith, c.from-k-in-loop-k.ensures, (next (goal.at.loop-k-smaller c).In-loop-k).after, c.loop-k-test.true)
 
 pub loop-k-preserved : goal.loop-k-preserved
 loop-k-preserved c =
     λ g h.
-    let n : c.edge_at-edge.result.to < 64 = to_in _ _ _ _ c.requires.chains c.edge_at-edge.ensures c.loop-k-test.true in
-    rw (one_shifted c.wide.result (omega (arith, c.wide.ensures, n)), c.wide.ensures, c.lower.ensures)
-    (relax_turn h (c.loop-k.invariant g h) (listed _ _ c.loop-k-test.true) (edge_of c.edge_at-edge.result) c.edge_at-edge.ensures (omega (arith, n, c.requires.room)))
+    let here = edges_at c.args.edges.now c.loop-k.k in
+    let n = (ends_in _ _ _ here c.loop-k-test.true c.requires.chains.inside).1 in
+    rw (one_shifted _ n, c.from-k-in-loop-k.ensures, c.lower.ensures)
+    (relax_turn h (c.loop-k.invariant g h) (listed (goal.at.loop-k-preserved c).In-loop-k) (edge_of (get_or c.args.edges.now c.loop-k.k blank_edge)) here (omega arith) (omega (arith, n)))
 
 pub returns : goal.returns
-returns c = λ g h. relax_end h (c.loop-k.invariant g h) (omega (arith, edges_count c.args.edges.now))
+returns c = λ g h. relax_end h (c.loop-k.invariant g h) (omega (arith, edges_length c.args.edges.now, c.loop-k-test.false))
