@@ -1,7 +1,6 @@
 -- The index as it is made, from the table's end to its beginning: what holds before the turn for the place in front of `at`.
 -- Assumes nothing.
 use mathlib.Core.Path.{◌≡◌, refl, sym, subst, ◌∙◌, ap}
-use mathlib.Core.Bool.{true, false}
 use mathlib.Core.List.{List}
 use Prim.Native.Nat.{ℕ, ◌+◌, ◌<◌, ◌≤◌}
 use native.Mathlib.Decide.{ℕ_discrete}
@@ -9,8 +8,6 @@ use native.Mathlib.Omega.{arith}
 use lib.ListN.{length, get_or, set, length-set, replicate, length-replicate, get_or-replicate}
 use lib.Seq.{get_or-set_same, get_or-set_other}
 use lib.IntN.{ℤ, pos, negsuc, nat_abs, ℤ_discrete}
-use lib.Signed.{lt_z}
-use borrow.Author.Tests.{ltb-true}
 use Rattle.plan.specs.Ranged.{max_variables}
 use Rattle.plan.specs.ClauseTable.{max_table}
 use Rattle.plan.proofs.Places.{without_none, without_more, first_found, first_end, first_back}
@@ -21,15 +18,6 @@ pub record Built (cs : List ℤ) (at : ℕ) (places : List ℕ) : Type 0 where
   pub room : length places ≡ firsts + max_table
   pub first : (l : ℤ) → nat_abs l ≤ max_variables → Place cs l at (get_or places (slot l) 0)
   pub next : (k : ℕ) → at ≤ k → k < length cs → Place cs (get_or cs k (pos 0)) (k + 1) (get_or places (slot_behind k) 0)
-
--- where a number's first place is kept, as the code finds it
-pub slot_off : (l : ℤ) (v : ℕ) → v ≡ nat_abs l → lt_z l (pos 0) ≡ true → max_variables + v ≡ slot l
-slot_off (pos n) v e t = let h : n < 0 = ltb-true n 0 t in absurd (omega arith)
-slot_off (negsuc n) v e t = omega arith
-
-pub slot_on : (l : ℤ) (v : ℕ) → v ≡ nat_abs l → lt_z l (pos 0) ≡ false → v ≡ slot l
-slot_on (pos n) v e t = e
-slot_on (negsuc n) v e t = let z : ◌≡◌ {A = ℕ} 0 1 = cc in absurd (omega arith)
 
 -- each number has its own place among the first ones
 pub slot_inside : (l : ℤ) → nat_abs l ≤ max_variables → slot l < firsts

@@ -19,7 +19,7 @@ use Rattle.plan.specs.Search.{opens}
 use Rattle.plan.proofs.Add.{IsValue, on_one, off_one}
 use Rattle.plan.proofs.Signs.{nat_abs_neg}
 use Rattle.plan.proofs.Lists.{le_or_lt}
-use Rattle.unit.specs.Queue.{Pending, None, Above, Since, literal_at, Queued}
+use Rattle.unit.specs.Queue.{Pending, NoClause, Above, Since, literal_at, Queued}
 use Rattle.unit.proofs.Calm.{quiet_or_waits}
 
 literal_fits : (n i : ℕ) (sign : Bool) → i < n → LiteralFits n (literal_of sign (i + 1))
@@ -69,9 +69,6 @@ pub record Queueing (b v p : List ℤ) (end i : ℕ) : Type 0 where
   pub room : end + opens v ≤ i + opens (drop i v)
   pub fits : (k : ℕ) → k < end → LiteralFits (length v) (get_or p k (pos 0))
   pub there : (j : ℕ) → j < i → get_or b j (pos 0) ≢ get_or v j (pos 0) → InQueue p end (literal_at j (get_or v j (pos 0)))
-
-pub queueing_start : (b v p : List ℤ) → length p ≡ max_variables → Queueing b v p 0 0
-queueing_start b v p e = record { inside = omega arith; long = e; short = omega arith; room = omega arith; fits = λ k h. absurd (omega arith); there = λ j h. absurd (omega arith) }
 
 module _ (b v p : List ℤ) (end i : ℕ) (r : Queueing b v p end i) (h : i < length v) where
   rest : opens (drop i v) ≡ opens (get_or v i (pos 0) ∷ drop (i + 1) v)
@@ -140,7 +137,7 @@ module _ (cs b v p : List ℤ) (end : ℕ) (since : Since cs b v) (r : Queued b 
   changed_in (pos (suc i)) t n = subst (λ k. InQueue p end (on k)) (add-one i) (changed_at i (pos 1) (λ e. subst (λ x. T (is_on x)) e tt) (on_one _ t) (λ e. n (rw e tt)))
   changed_in (negsuc i) t n = subst (λ k. InQueue p end (off k)) (add-one i) (changed_at i (negsuc 0) (λ e. subst (λ x. T (is_off x)) e tt) (off_one _ t) (λ e. n (rw e tt)))
 
-  pub changes_wait : Pending cs None v p 0 end
+  pub changes_wait : Pending cs NoClause v p 0 end
   changes_wait = record {
     queue = r.queue;
     calm = λ C m. inr (quiet_or_waits kept.before v p 0 end kept.above (λ l t n. let w = changed_in l t n in (w.0, omega arith, w.1, w.2)) C (since.quiet C m));

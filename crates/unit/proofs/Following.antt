@@ -2,7 +2,6 @@
 -- Assumes nothing.
 use mathlib.Core.Path.{◌≡◌, refl, sym, subst, ◌∙◌}
 use mathlib.Core.Logic.{◌⊎◌, inl, inr, ⊎_elim}
-use mathlib.Core.Bool.{Bool, true, false}
 use mathlib.Core.List.Memᴰ
 use mathlib.Core.List.{List, Memᴰ}
 use Prim.Native.Nat.{ℕ, ◌+◌, ◌≤◌, ◌<◌}
@@ -10,25 +9,28 @@ use native.Mathlib.Decide.{ℕ_discrete}
 use native.Mathlib.Omega.{arith}
 use lib.ListN.{length, get_or, set, drop, length-set}
 use lib.Seq.{get_or-set_same, get_or-set_other}
-use lib.IntN.{ℤ, pos, neg_ℤ}
+use lib.IntN.{ℤ, pos, negsuc, neg_ℤ, nat_abs}
+use mir.Syntax.{w16}
+use mir.Val.{SFits, of_z, to_z}
+use mir.Facts.{to_z-of_z}
 use lib.Dec.{T}
 use Rattle.plan.specs.Meaning.{PlanFile, true_in, add}
 use Rattle.plan.specs.Ranged.{max_variables, LiteralFits}
 use Rattle.plan.specs.Closing.{unit, all_false}
 use Rattle.plan.specs.Search.{Assigned, opens, nothing}
 use Rattle.plan.specs.Tables.{clauses_of}
-use Rattle.plan.specs.ClauseTable.{Ended, Table, End, BeginsAt, Begin, part, Stands, Around}
+use Rattle.plan.specs.ClauseTable.{Ended, End, BeginsAt, Begin, part, Stands, Around}
 use Rattle.plan.proofs.Add.{add_above, add_has, add_shape, add_opens}
 use Rattle.plan.proofs.Closing.{clash_mono}
 use Rattle.plan.proofs.Exists.{opens_le}
 use Rattle.plan.proofs.Lists.{le_or_lt}
 use Rattle.plan.proofs.ClauseTable.{end_some, first_clause, no_more, stands_in, begins_behind, stands_from, around_one, around_some}
-use Rattle.index.specs.Places.{Place}
-use Rattle.unit.specs.Clauses.{Ready, Says, Quiet, HasClauses, ByClauses, ClauseClash, Ends, Propagated}
-use Rattle.unit.specs.Queue.{Does, Applied, Waits, Pending, None, Follows, Tried, Known}
-use Rattle.unit.specs.declared.Said.{Said}
-use Rattle.unit.specs.declared.Said.TheVariants.{Clash, Gives, Nothing}
-use Rattle.unit.specs.declared.Followed.{Followed}
+use Rattle.plan.proofs.Signs.{nat_abs_neg}
+use Rattle.index.specs.Places.{Place, Indexed, slot}
+use Rattle.unit.specs.Clauses.{Ready, Says, SaysAt, Quiet, HasClauses, ByClauses, ClauseClash, Ends, Propagated}
+use Rattle.std.specs.Prelude.{Option, Some, None, Result, Ok, Err}
+use Rattle.unit.specs.Queue.{Does, Applied, Waits, Used, Pending, NoClause, Follows, Tried}
+use Rattle.unit.specs.declared.Clash.{Clash}
 use Rattle.unit.proofs.Steps.{onward_none, onward_then, onward_add}
 use Rattle.unit.proofs.Calm.{quiet_or_waits, quiet_true, add_only}
 
@@ -37,9 +39,6 @@ sized {n} {v} s = subst (λ k. Assigned k v) (sym s.long) s
 
 shape_of : {n : ℕ} {cs : List ℤ} (φ : PlanFile) → HasClauses n cs φ → (v : List ℤ) → Assigned n v → Assigned φ.variables v
 shape_of φ h v s = subst (λ k. Assigned k v) (sym h.size) s
-
-pub ready_kept : {cs v w : List ℤ} → Ready cs v → Assigned (length v) w → Ready cs w
-ready_kept {cs} r s = record { shape = sized s; small = omega (arith, r.small, s.long); table = subst (λ n. Table n cs) (sym s.long) r.table }
 
 -- several steps by what clauses give
 by_none : (cs v : List ℤ) → Assigned (length v) v → ByClauses cs v v
@@ -75,7 +74,7 @@ pending_less {cs} {v} {q} {head} {end} {Left} {Left'} less t = record { queue = 
 
 -- one literal more, which waits at the queue's end
 module _ {v : List ℤ} {l : ℤ} (s : Assigned (length v) v) (f : LiteralFits (length v) l) (not_true : T (true_in v l) → ⊥) (not_false : T (true_in v (neg_ℤ l)) → ⊥) where
-  pub end_inside : (end : ℕ) → end + opens v ≤ max_variables → end < max_variables
+  end_inside : (end : ℕ) → end + opens v ≤ max_variables → end < max_variables
   end_inside end h = omega (arith, add_opens (length v) v l s f.low f.high not_true not_false)
 
   module _ {cs q : List ℤ} {head end : ℕ} {Left Left' : List ℤ → Type 0} (h : head ≤ end) (t : Pending cs Left v q head end)
@@ -112,16 +111,32 @@ module _ {v : List ℤ} {l : ℤ} (s : Assigned (length v) v) (f : LiteralFits (
       calm = λ D i. calm_more D i (t.calm D i);
     }
 
--- the literal tried, behind an assignment in which every clause is quiet
-pub pending_tried : {cs v : List ℤ} {l : ℤ} (q : List ℤ) → length v ≤ max_variables → length q ≡ max_variables → Tried cs v l → Pending cs None v (set q 0 l) 0 1
-pending_tried {cs} {v} {l} q small long t =
-    let e : Pending cs None t.before q 0 0 = pending_start (omega (arith, t.shape.long)) long (λ C i. inr (inl (t.quiet C i))) in
-    let f : LiteralFits (length t.before) l = subst (λ n. LiteralFits n l) (sym t.shape.long) t.fits in
-    subst (λ x. Pending cs None x (set q 0 l) 0 1) (sym t.is) (pending_add (sized t.shape) f t.not_true t.not_false (omega arith) e (λ D i x. absurd x))
+small_fits : (l : ℤ) → nat_abs l ≤ max_variables → SFits w16 l
+small_fits (pos n) h = record { sfits = omega arith }
+small_fits (negsuc n) h = record { sfits = omega arith }
 
--- nothing is known where the literal tried is 0
-pub known_nothing : (cs v : List ℤ) → Known cs v (pos 0)
-known_nothing cs v n = absurd (n refl)
+-- what a clause gives is a literal, and there is room for it
+module _ {cs v : List ℤ} {at : ℕ} {l : ℤ} (ready : Ready cs v) (h : at < length cs) (g : SaysAt cs at v (Ok (Some l))) where
+  given : (C : List ℤ) × Says v C (Ok (Some l))
+  given = let e = end_some cs at ready.table.ended h in (_, g e.0 e.1)
+
+  pub given_number : to_z w16 (of_z w16 l) ≡ l
+  given_number = to_z-of_z (small_fits l (omega (arith, given.1.0.high, ready.small)))
+
+  pub given_fits : LiteralFits (length v) (to_z w16 (of_z w16 l))
+  given_fits = rw given_number given.1.0
+
+  pub given_room : (end : ℕ) → end + opens v ≤ max_variables → end < max_variables
+  given_room = let u = given.1.1 in end_inside ready.shape given.1.0 u.not_true u.not_false
+
+-- the literal tried, behind an assignment in which every clause is quiet
+pub pending_tried : {cs v p : List ℤ} {l : ℤ} {end next : ℕ} (q : List ℤ) → Ready cs v → length q ≡ max_variables → end ≡ 0 → p ≡ set q end (to_z w16 (of_z w16 l)) → next ≡ end + 1
+    → Tried cs v l → Pending cs NoClause v p 0 next
+pending_tried {cs} {v} {l = l} q ready long z e n t =
+    let h : length t.before ≤ max_variables = omega (arith, t.shape.long, ready.small) in
+    let s : Pending cs NoClause t.before q 0 0 = pending_start h long (λ C i. inr (inl (t.quiet C i))) in
+    let f : LiteralFits (length t.before) l = subst (λ k. LiteralFits k l) (sym t.shape.long) t.fits in
+    rw (n, e, z, to_z-of_z (small_fits l (omega (arith, f.high))), t.is) (pending_add (sized t.shape) f t.not_true t.not_false (omega arith) s (λ D i x. absurd x))
 
 -- the looks at clauses, one after the other, where those of Left are left
 pub record Looks (cs v₀ v q : List ℤ) (Left : List ℤ → Type 0) (head end : ℕ) : Type 0 where
@@ -130,7 +145,8 @@ pub record Looks (cs v₀ v q : List ℤ) (Left : List ℤ → Type 0) (head end
   pub pending : Pending cs Left v q head end
 
 -- one look: what the clause says is done
-module _ {cs C v₀ v w q p : List ℤ} {Left : List ℤ → Type 0} {at e head end : ℕ} {r : Followed} (s : Looks cs v₀ v q Left head end) (t : Stands cs C at e) (a : Applied cs at v w q p end r) where
+module _ {cs C v₀ v w q p : List ℤ} {Left : List ℤ → Type 0} {at e head end next : ℕ} {r : Result (Unit {0}) Clash} (s : Looks cs v₀ v q Left head end) (t : Stands cs C at e)
+    (a : Applied cs at v w q p end next r) where
   abbrev shape : Assigned (length v) v
   shape = sized s.steps.shape
 
@@ -140,29 +156,25 @@ module _ {cs C v₀ v w q p : List ℤ} {Left : List ℤ → Type 0} {at e head 
   among : {φ : PlanFile} → HasClauses (length v) cs φ → Memᴰ C φ.clauses
   among h = rw h.clauses (stands_in t)
 
-  does_steps : (said : Said) → Says v C said → Does v w q p end said r → ByClauses cs v w
-  does_steps Clash x d = rw d.1 (by_none cs v shape)
-  does_steps (Gives l) x d =
+  does_steps : (said : Result (Option ℤ) Clash) → Says v C said → Does v w q p end next said r → ByClauses cs v w
+  does_steps (Err c) x d = rw d.1 (by_none cs v shape)
+  does_steps (Ok (Some l)) x d =
       rw d.2 (record {
         shape = add_shape (length v) v l x.0.high shape;
         onward = λ φ h. onward_add φ h.ranged v (shape_of φ h v shape) l (unit C (among h) l x.1.among x.1.others) x.1.not_false;
       })
-  does_steps Nothing x d = rw d.2 (by_none cs v shape)
+  does_steps (Ok None) x d = rw d.2 (by_none cs v shape)
 
   look_steps : ByClauses cs v₀ w
   look_steps = by_then s.steps (does_steps a.said says a.does)
 
-  does_clash : (said : Said) → r.clash ≡ true → Says v C said → Does v w q p end said r → ClauseClash cs v
-  does_clash Clash e x d = λ φ h R g o. clash_mono φ (true_in v) R g (all_false C (among h) x)
-  does_clash (Gives l) e x d = let n = d.0 in let z : ◌≡◌ {A = ℕ} 0 1 = cc in absurd (omega arith)
-  does_clash Nothing e x d = let n = d.0 in let z : ◌≡◌ {A = ℕ} 0 1 = cc in absurd (omega arith)
+  does_clash : {c : Clash} (said : Result (Option ℤ) Clash) → r ≡ Err c → Says v C said → Does v w q p end next said r → ClauseClash cs v
+  does_clash (Err c) e x d = λ φ h R g o. clash_mono φ (true_in v) R g (all_false C (among h) x)
+  does_clash (Ok (Some l)) e x d = let n = d.0 in cc
+  does_clash (Ok None) e x d = let n = d.0 in cc
 
-  pub look_clash : r.clash ≡ true → Follows cs v₀ w p head r
-  look_clash u = record {
-    steps = look_steps;
-    clash = λ _. clash_back s.steps (does_clash a.said u says a.does);
-    goes = λ x. let z : ◌≡◌ {A = ℕ} 0 1 = cc in absurd (omega arith);
-  }
+  pub look_clash : {c : Clash} {more : ℕ} → r ≡ Err c → Follows cs v₀ w p head more (Err c)
+  look_clash u = record { steps = look_steps; leads = clash_back s.steps (does_clash a.said u says a.does) }
 
   -- C is left no more
   module _ {Left' : List ℤ → Type 0} (less : (D : List ℤ) → Left D → (D ≡ C) ⊎ Left' D) where
@@ -170,29 +182,22 @@ module _ {cs C v₀ v w q p : List ℤ} {Left : List ℤ → Type 0} {at e head 
     less_quiet S x D (inl e) = inr (rw e x)
     less_quiet S x D (inr y) = inl y
 
-    does_more : (said : Said) → r.clash ≡ false → Says v C said → Does v w q p end said r → (head ≤ r.end) × Pending cs Left' w p head r.end
-    does_more Clash e x d = let n = d.0 in let z : ◌≡◌ {A = ℕ} 0 1 = cc in absurd (omega arith)
-    does_more (Gives l) e (f, u) d = (
+    does_more : (said : Result (Option ℤ) Clash) → r ≡ Ok tt → Says v C said → Does v w q p end next said r → (head ≤ next) × Pending cs Left' w p head next
+    does_more (Err c) e x d = let n = d.0 in cc
+    does_more (Ok (Some l)) e (f, u) d = (
       omega (arith, s.below, d.1),
       rw (d.1, d.2, d.3) (pending_add shape f u.not_true u.not_false s.below s.pending
           (λ D m y. less_quiet (add v l) (quiet_true (add v l) C l u.among (add_has v l f.low f.high)) D (less D y))),
     )
-    does_more Nothing e x d = (omega (arith, s.below, d.1), rw (d.1, d.2, d.3) (pending_less (λ D m y. less_quiet v x D (less D y)) s.pending))
+    does_more (Ok None) e x d = (omega (arith, s.below, d.1), rw (d.1, d.2, d.3) (pending_less (λ D m y. less_quiet v x D (less D y)) s.pending))
 
-    pub look_more : r.clash ≡ false → Looks cs v₀ w p Left' head r.end
+    pub look_more : r ≡ Ok tt → Looks cs v₀ w p Left' head next
     look_more u = let m = does_more a.said u says a.does in record { steps = look_steps; below = m.0; pending = m.1 }
 
 -- all looks are done
 pub look_ends : {cs v₀ v q : List ℤ} {head end : ℕ} {Left : List ℤ → Type 0} → ByClauses cs v₀ v → Pending cs Left v q head end → ((D : List ℤ) → Left D → ⊥)
-    → Follows cs v₀ v q head (record { clash = false; end = end })
-look_ends k t none = record {
-  steps = k;
-  clash = λ u. let z : ◌≡◌ {A = ℕ} 0 1 = cc in absurd (omega arith);
-  goes = λ u. pending_less (λ D m x. absurd (none D x)) t;
-}
-
-pub leads_none : {cs v q : List ℤ} {head end : ℕ} → Assigned (length v) v → Pending cs None v q head end → Follows cs v v q head (record { clash = false; end = end })
-leads_none {cs} {v} s t = look_ends (by_none cs v s) t (λ D x. x)
+    → Follows cs v₀ v q head end (Ok tt)
+look_ends k t none = record { steps = k; leads = pending_less (λ D m x. absurd (none D x)) t }
 
 -- the pass over the clauses, before the one that begins at `at`
 abbrev pub Behind : List ℤ → ℕ → List ℤ → Type 0
@@ -208,20 +213,21 @@ passing_start {cs} {v} s long = record {
   begins = λ h. absurd (omega arith);
 }
 
-module _ {cs v₀ v w q p : List ℤ} {at e end : ℕ} {r : Followed} (s : Passing cs v₀ v q end at) (n : End cs at e) (a : Applied cs at v w q p end r) where
+module _ {cs v₀ v w q p : List ℤ} {at e end next : ℕ} {r : Result (Unit {0}) Clash} (s : Passing cs v₀ v q end at) (n : End cs at e)
+    (a : Applied cs at v w q p end next r) where
   stands : Stands cs (part cs at e) at e
   stands = record { begins = s.begins; ends = n; is = refl }
 
-  pub pass_clash : r.clash ≡ true → Follows cs v₀ w p 0 r
+  pub pass_clash : {c : Clash} {more : ℕ} → r ≡ Err c → Follows cs v₀ w p 0 more (Err c)
   pass_clash = look_clash s.looks stands a
 
-  pub pass_more : r.clash ≡ false → Passing cs v₀ w p r.end (e + 1)
+  pub pass_more : r ≡ Ok tt → Passing cs v₀ w p next (e + 1)
   pass_more t = record {
     looks = look_more s.looks stands a (λ D x. Memᴰ.cases_cons (rw (first_clause cs at e n) at x)) t;
     begins = begins_behind cs at e n;
   }
 
-pub pass_ends : {cs v₀ v q : List ℤ} {end at : ℕ} → Passing cs v₀ v q end at → length cs ≤ at → Follows cs v₀ v q 0 (record { clash = false; end = end })
+pub pass_ends : {cs v₀ v q : List ℤ} {end at : ℕ} → Passing cs v₀ v q end at → length cs ≤ at → Follows cs v₀ v q 0 end (Ok tt)
 pass_ends {cs} {at = at} s h = look_ends s.looks.steps s.looks.pending (λ D i. Memᴰ.not-nil (rw (no_more cs at h) at i))
 
 -- the clause has the number m at a place from `place` on
@@ -245,7 +251,7 @@ later_on {cs} {m} {from} {place} f C k h l e a = record { at = k; after = go (le
     go (inl x) = x
     go (inr x) = absurd (f.before k h x e)
 
-pub following_start : {cs v q : List ℤ} {head end place : ℕ} → Ready cs v → head < end → Pending cs None v q head end → Place cs (neg_ℤ (get_or q head (pos 0))) 0 place
+pub following_start : {cs v q : List ℤ} {head end place : ℕ} → Ready cs v → head < end → Pending cs NoClause v q head end → Place cs (neg_ℤ (get_or q head (pos 0))) 0 place
     → Following cs v v q (neg_ℤ (get_or q head (pos 0))) (head + 1) end place
 following_start {cs} {v} {q} {head} {end} {place} s h t f = record {
   looks = record { steps = by_none cs v s.shape; below = omega arith; pending = record { queue = t.queue; calm = λ C i. go C i (t.calm C i) } };
@@ -258,23 +264,32 @@ following_start {cs} {v} {q} {head} {end} {place} s h t f = record {
         inl (later_on f C k.0 (omega arith) k.1 k.2 k.3)
     waits C i x (no n) = inr (inr (record { place = x.place; from = omega (arith, x.from); upto = x.upto; among = x.among }))
 
-    go : (C : List ℤ) → Memᴰ C (clauses_of cs) → Calm None v q head end C → Calm (Later cs (neg_ℤ (get_or q head (pos 0))) place) v q (head + 1) end C
+    go : (C : List ℤ) → Memᴰ C (clauses_of cs) → Calm NoClause v q head end C → Calm (Later cs (neg_ℤ (get_or q head (pos 0))) place) v q (head + 1) end C
     go C i (inl x) = absurd x
     go C i (inr (inl x)) = inr (inl x)
     go C i (inr (inr x)) = waits C i x (ℕ_discrete x.place head)
 
-module _ {cs v₀ v w q p : List ℤ} {m : ℤ} {head end place start : ℕ} {r : Followed} (s : Following cs v₀ v q m head end place)
-    (z : Ended cs) (h : place < length cs) (b : Begin cs place start) (a : Applied cs start v w q p end r) where
+-- the first place, as the index gives it for the opposite of the queue's literal
+pub first_opposite : {cs v q : List ℤ} {places : List ℕ} {head end place : ℕ} {other : ℤ} → Ready cs v → Indexed cs places → head < end → Used v q end
+    → other ≡ neg_ℤ (to_z w16 (of_z w16 (get_or q head (pos 0)))) → place ≡ get_or places (slot (to_z w16 (of_z w16 other))) 0 → Place cs (neg_ℤ (get_or q head (pos 0))) 0 place
+first_opposite {q = q} {head = head} ready i h u o e =
+    let l : ℤ = get_or q head (pos 0) in
+    let low : nat_abs l ≤ max_variables = omega (arith, (u.fits head h).high, ready.small) in
+    let low_other : nat_abs (neg_ℤ l) ≤ max_variables = omega (arith, nat_abs_neg l) in
+    rw (e, o, to_z-of_z (small_fits l low), to_z-of_z (small_fits (neg_ℤ l) low_other)) (i.first (neg_ℤ l) low_other)
+
+module _ {cs v₀ v w q p : List ℤ} {m : ℤ} {head end more place start : ℕ} {r : Result (Unit {0}) Clash} (s : Following cs v₀ v q m head end place)
+    (z : Ended cs) (h : place < length cs) (b : Begin cs place start) (a : Applied cs start v w q p end more r) where
   stop : (e : ℕ) × End cs place e
   stop = end_some cs place z h
 
   stands_here : Stands cs (part cs start stop.0) start stop.0
   stands_here = stands_from b stop.1
 
-  pub follow_clash : r.clash ≡ true → Follows cs v₀ w p head r
+  pub follow_clash : {c : Clash} {k : ℕ} → r ≡ Err c → Follows cs v₀ w p head k (Err c)
   follow_clash = look_clash s.looks stands_here a
 
-  pub follow_more : {next : ℕ} → Place cs (get_or cs place (pos 0)) (place + 1) next → r.clash ≡ false → Following cs v₀ w p m head r.end next
+  pub follow_more : {next : ℕ} → Place cs (get_or cs place (pos 0)) (place + 1) next → r ≡ Ok tt → Following cs v₀ w p m head more next
   follow_more {next} f t = record {
     looks = look_more s.looks stands_here a (λ D x. go D x (ℕ_discrete x.at place)) t;
     here = λ l. f.here l ∙ s.here h;
@@ -284,28 +299,16 @@ module _ {cs v₀ v w q p : List ℤ} {m : ℤ} {head end place start : ℕ} {r 
       go D x (yes e) = inl (around_one (subst (λ k. Around cs k D) e x.around) (record { start = start; stop = stop.0; stands = stands_here; from = b.before; upto = stop.1.after }))
       go D x (no n) = inr (later_on (subst (λ l. Place cs l (place + 1) next) (s.here h) f) D x.at (omega (arith, x.after)) x.inside x.is x.around)
 
-pub follow_ends : {cs v₀ v q : List ℤ} {m : ℤ} {head end place : ℕ} → Following cs v₀ v q m head end place → length cs ≤ place → Follows cs v₀ v q head (record { clash = false; end = end })
+pub follow_ends : {cs v₀ v q : List ℤ} {m : ℤ} {head end place : ℕ} → Following cs v₀ v q m head end place → length cs ≤ place → Follows cs v₀ v q head end (Ok tt)
 follow_ends s h = look_ends s.looks.steps s.looks.pending (λ D x. omega (arith, x.after, x.inside))
 
 -- what several lead to
-module _ {cs u v q : List ℤ} {head : ℕ} {r : Followed} (a : Follows cs u v q head r) where
-  pub leads_clash : r.clash ≡ true → Propagated cs u v true
-  leads_clash e = record { steps = a.steps; ends = a.clash e }
+pub leads_clash : {cs u v q : List ℤ} {head end : ℕ} {c : Clash} → Follows cs u v q head end (Err c) → Propagated cs u v (Err c)
+leads_clash a = record { steps = a.steps; ends = a.leads }
 
-  pub leads_ends : r.clash ≡ false → r.end ≤ head → Propagated cs u v false
-  leads_ends e h = record { steps = a.steps; ends = λ C i. go C ((a.goes e).calm C i) }
-    where
-      go : (C : List ℤ) → Calm None v q head r.end C → Quiet (true_in v) C
-      go C (inl x) = absurd x
-      go C (inr (inl x)) = x
-      go C (inr (inr x)) = absurd (omega (arith, x.from, x.upto))
-
-  pub leads_then : {w p : List ℤ} {next : ℕ} {o : Followed} → Follows cs v w p next o → o.clash ≡ false → Follows cs u w p next (record { clash = false; end = o.end })
-  leads_then b e = look_ends (by_then a.steps b.steps) (b.goes e) (λ D x. x)
-
-  pub propagated_then : {w : List ℤ} {b : Bool} → Propagated cs v w b → Propagated cs u w b
-  propagated_then {w} {b} x = record { steps = by_then a.steps x.steps; ends = go b x.ends }
-    where
-      go : (b : Bool) → Ends cs v w b → Ends cs u w b
-      go true y = clash_back a.steps y
-      go false y = y
+pub propagated_then : {cs u v w q : List ℤ} {head end : ℕ} {r : Result (Unit {0}) Clash} → Follows cs u v q head end (Ok tt) → Propagated cs v w r → Propagated cs u w r
+propagated_then {cs} {u} {v} {w} {r = r} a x = record { steps = by_then a.steps x.steps; ends = go r x.ends }
+  where
+    go : (r : Result (Unit {0}) Clash) → Ends cs v w r → Ends cs u w r
+    go (Err c) y = clash_back a.steps y
+    go (Ok t) y = y

@@ -1,6 +1,6 @@
 -- One clause of the flat table: what it says of an assignment.
 -- Assumes nothing.
-use Rattle.std.specs.Prelude.{◌≡◌, ◌≢◌, ◌⊎◌, Bool, true, false, ℕ, ◌≤◌, length, get_or, ℤ, pos, neg_ℤ, T}
+use Rattle.std.specs.Prelude.{◌≡◌, ◌≢◌, ◌⊎◌, Option, Some, None, Result, Ok, Err, ⊤, ℕ, ◌≤◌, length, get_or, ℤ, pos, neg_ℤ, T}
 use mathlib.Core.List.{List, Memᴰ}
 use Rattle.plan.specs.Meaning.{PlanFile, Literals, true_in}
 use Rattle.plan.specs.Ranged.{max_variables, Ranged, LiteralFits}
@@ -10,8 +10,7 @@ use Rattle.plan.specs.Closing.{Clashes}
 use Rattle.plan.specs.Search.{Assigned}
 use Rattle.plan.specs.Tables.{clauses_of}
 use Rattle.unit.specs.Onward.{Onward}
-use Rattle.unit.specs.declared.Said.{Said}
-use Rattle.unit.specs.declared.Said.TheVariants.{Clash, Gives, Nothing}
+use Rattle.unit.specs.declared.Clash.{Clash}
 
 -- A table and an assignment of its variables.
 pub record Ready (cs a : List ℤ) : Type 0 where
@@ -48,14 +47,14 @@ pub record Quiet (S : Literals) (C : List ℤ) : Type 0 where
 abbrev pub AllQuiet : Literals → List (List ℤ) → Type 0
 AllQuiet S Cs = (C : List ℤ) → Memᴰ C Cs → Quiet S C
 
--- What the clause C says of the assignment v.
-abbrev pub Says : List ℤ → List ℤ → Said → Type 0
-Says v C Clash = AllFalse (true_in v) C
-Says v C (Gives l) = LiteralFits (length v) l × Unit (true_in v) C l
-Says v C Nothing = Quiet (true_in v) C
+-- What the clause C says of the assignment v: a clash, a literal, or nothing.
+abbrev pub Says : List ℤ → List ℤ → Result (Option ℤ) Clash → Type 0
+Says v C (Err c) = AllFalse (true_in v) C
+Says v C (Ok (Some l)) = LiteralFits (length v) l × Unit (true_in v) C l
+Says v C (Ok None) = Quiet (true_in v) C
 
 -- What the clause says that begins at `at`.
-abbrev pub SaysAt : List ℤ → ℕ → List ℤ → Said → Type 0
+abbrev pub SaysAt : List ℤ → ℕ → List ℤ → Result (Option ℤ) Clash → Type 0
 SaysAt cs at v said = (e : ℕ) → End cs at e → Says v (part cs at e) said
 
 -- The plan files that have these clauses and so many variables.
@@ -74,10 +73,10 @@ abbrev pub ClauseClash : List ℤ → List ℤ → Type 0
 ClauseClash cs v = (φ : PlanFile) → HasClauses (length v) cs φ → Clashes φ (true_in v)
 
 -- All that the clauses give, and what they give then, up to the end: a clash, or every clause is quiet.
-abbrev pub Ends : List ℤ → List ℤ → List ℤ → Bool → Type 0
-Ends cs v w true = ClauseClash cs v
-Ends cs v w false = AllQuiet (true_in w) (clauses_of cs)
+abbrev pub Ends : List ℤ → List ℤ → List ℤ → Result ⊤ Clash → Type 0
+Ends cs v w (Err c) = ClauseClash cs v
+Ends cs v w (Ok u) = AllQuiet (true_in w) (clauses_of cs)
 
-pub record Propagated (cs v w : List ℤ) (r : Bool) : Type 0 where
+pub record Propagated (cs v w : List ℤ) (r : Result ⊤ Clash) : Type 0 where
   pub steps : ByClauses cs v w
   pub ends : Ends cs v w r

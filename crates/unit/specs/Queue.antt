@@ -1,28 +1,26 @@
 -- The queue of the literals that were set and whose clauses are still to be looked at.
 -- Assumes nothing.
-use Rattle.std.specs.Prelude.{◌≡◌, ◌≢◌, ◌⊎◌, true, false, ℕ, ◌+◌, ◌<◌, ◌≤◌, length, get_or, set, ℤ, pos, neg_ℤ, T}
+use Rattle.std.specs.Prelude.{◌≡◌, ◌≢◌, ◌⊎◌, Option, Some, None, Result, Ok, Err, ⊤, ℕ, ◌+◌, ◌<◌, ◌≤◌, length, get_or, set, ℤ, pos, neg_ℤ, T}
 use mathlib.Core.List.{List, Memᴰ}
 use Rattle.std.specs.Int.Signed.{lt_z}
 use Rattle.plan.specs.Meaning.{◌⊆◌, true_in, add, literal_of}
 use Rattle.plan.specs.Ranged.{max_variables, LiteralFits}
 use Rattle.plan.specs.Search.{Assigned, opens}
-use Rattle.plan.specs.Tables.{clauses_of}
+use Rattle.plan.specs.Tables.{clauses_of, BeginsWith}
 use Rattle.unit.specs.Clauses.{SaysAt, Quiet, AllQuiet, ByClauses, ClauseClash}
-use Rattle.unit.specs.declared.Said.{Said}
-use Rattle.unit.specs.declared.Said.TheVariants.{Clash, Gives, Nothing}
-use Rattle.unit.specs.declared.Followed.{Followed}
+use Rattle.unit.specs.declared.Clash.{Clash}
 
--- What is done with what a clause says: from the assignment v and the queue q, of which `end` places are used, to w and p.
-abbrev pub Does : List ℤ → List ℤ → List ℤ → List ℤ → ℕ → Said → Followed → Type 0
-Does v w q p end Clash r = (r.clash ≡ true) × (w ≡ v)
-Does v w q p end (Gives l) r = (r.clash ≡ false) × (r.end ≡ end + 1) × (w ≡ add v l) × (p ≡ set q end l)
-Does v w q p end Nothing r = (r.clash ≡ false) × (r.end ≡ end) × (w ≡ v) × (p ≡ q)
+-- What is done with what a clause says: from the assignment v and the queue q, of which `end` places are used, to w and p, of which `next` are.
+abbrev pub Does : List ℤ → List ℤ → List ℤ → List ℤ → ℕ → ℕ → Result (Option ℤ) Clash → Result ⊤ Clash → Type 0
+Does v w q p end next (Err c) r = (r ≡ Err c) × (w ≡ v)
+Does v w q p end next (Ok (Some l)) r = (r ≡ Ok tt) × (next ≡ end + 1) × (w ≡ add v l) × (p ≡ set q end l)
+Does v w q p end next (Ok None) r = (r ≡ Ok tt) × (next ≡ end) × (w ≡ v) × (p ≡ q)
 
 -- A look at the clause that begins at `at`.
-pub record Applied (cs : List ℤ) (at : ℕ) (v w q p : List ℤ) (end : ℕ) (r : Followed) : Type 0 where
-  pub said : Said
+pub record Applied (cs : List ℤ) (at : ℕ) (v w q p : List ℤ) (end next : ℕ) (r : Result ⊤ Clash) : Type 0 where
+  pub said : Result (Option ℤ) Clash
   pub says : SaysAt cs at v said
-  pub does : Does v w q p end said r
+  pub does : Does v w q p end next said r
 
 -- A literal of the clause became false by one that waits in the queue, at a place from `head` up to `end`.
 pub record Waits (q : List ℤ) (head end : ℕ) (C : List ℤ) : Type 0 where
@@ -43,14 +41,18 @@ pub record Pending (cs : List ℤ) (Left : List ℤ → Type 0) (v q : List ℤ)
   pub calm : (C : List ℤ) → Memᴰ C (clauses_of cs) → Left C ⊎ (Quiet (true_in v) C ⊎ Waits q head end C)
 
 -- No clause is left.
-abbrev pub None : List ℤ → Type 0
-None C = ⊥
+abbrev pub NoClause : List ℤ → Type 0
+NoClause C = ⊥
 
--- From v to w by what clauses give: a clash, or no clause is left but for what waits from `head` on.
-pub record Follows (cs v w p : List ℤ) (head : ℕ) (r : Followed) : Type 0 where
+-- A clash, or no clause is left but for what waits from `head` on.
+abbrev pub Leads : List ℤ → List ℤ → List ℤ → List ℤ → ℕ → ℕ → Result ⊤ Clash → Type 0
+Leads cs v w p head end (Err c) = ClauseClash cs v
+Leads cs v w p head end (Ok u) = Pending cs NoClause w p head end
+
+-- From v to w by what clauses give, up to there.
+pub record Follows (cs v w p : List ℤ) (head end : ℕ) (r : Result ⊤ Clash) : Type 0 where
   pub steps : ByClauses cs v w
-  pub clash : r.clash ≡ true → ClauseClash cs v
-  pub goes : r.clash ≡ false → Pending cs None w p head r.end
+  pub leads : Leads cs v w p head end r
 
 -- "Each closing is given the closed set before it and the literal tried": v is an assignment in which every clause is quiet, and the literal l.
 pub record Tried (cs v : List ℤ) (l : ℤ) : Type 0 where
@@ -62,13 +64,10 @@ pub record Tried (cs v : List ℤ) (l : ℤ) : Type 0 where
   pub is : v ≡ add before l
   pub quiet : AllQuiet (true_in before) (clauses_of cs)
 
--- What is known of v: nothing where the literal tried is 0.
-abbrev pub Known : List ℤ → List ℤ → ℤ → Type 0
-Known cs v l = l ≢ pos 0 → Tried cs v l
-
--- A longer list begins with a.
-abbrev pub BeginsWith : List ℤ → List ℤ → Type 0
-BeginsWith r a = (i : ℕ) → i < length a → get_or r i (pos 0) ≡ get_or a i (pos 0)
+-- What is known of v: nothing where no literal was tried.
+abbrev pub Known : List ℤ → List ℤ → Option ℤ → Type 0
+Known cs v None = ⊤
+Known cs v (Some l) = Tried cs v l
 
 -- b begins with an assignment of which v has lost nothing.
 pub record Above (b v : List ℤ) : Type 0 where

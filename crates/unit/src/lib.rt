@@ -1,30 +1,49 @@
 // unit: all that the clauses give, by a queue of the literals whose clauses are still to be looked at.
 #![tactic(auto)]
 
-ghost use Rattle.std.specs.Prelude.{◌≡◌, ◌+◌, ◌<◌, ◌≤◌, length};
+ghost use Rattle.std.specs.Prelude.{◌≡◌, ◌+◌, ◌<◌, ◌≤◌, pos, length, replicate, set};
 ghost use Rattle.plan.specs.Ranged.{max_variables};
 ghost use Rattle.plan.specs.Search.{Assigned, opens};
-ghost use Rattle.index.specs.Places.{Indexed};
 ghost use Rattle.unit.specs.Clauses.{Ready, Stop, SaysAt, Propagated};
-ghost use Rattle.unit.specs.Queue.{Applied, Pending, None, Follows, Known, Above, Since, Queued};
+ghost use Rattle.unit.specs.Queue.{Applied, Pending, NoClause, Follows, Known, Above, Since, Queued};
 
-use index::Index;
+use index::IndexedClauses;
 use plan::Assignment;
 
-// What a clause says of an assignment.
-#[derive(Clone, Copy)]
-pub enum Said {
-    Clash,
-    Gives(i16),
-    Nothing,
+// Both signs of a variable are given, or all of a clause is false.
+#[derive(Clone, Copy, Debug, PartialEq, Eq)]
+pub struct Clash;
+
+// The literals that were set, in that order: those in the first `end` places. No variable is set twice, so there is room for all. (No Vec:
+// no heap.)
+#[derive(Drop)]
+struct Queue {
+    literals: [i16; Assignment::MAX],
+    end: usize,
 }
 
-// What following a clause leads to: a clash, or the queue's new end.
-#[derive(Clone, Copy)]
-pub struct Followed {
-    pub clash: bool,
-    pub end: usize,
+impl Queue {
+    fn new() -> Queue
+        ensures literals { result.literals ≡ replicate max_variables (pos 0) }
+        ensures end { result.end ≡ 0 }
+    {
+        Queue {
+            literals: [0; Assignment::MAX],
+            end: 0,
+        }
+    }
+
+    fn push(&mut self, literal: i16)
+        requires { self.old.end < max_variables }
+        ensures literals { self.new.literals ≡ set self.old.literals self.old.end literal }
+        ensures end { self.new.end ≡ self.old.end + 1 }
+    {
+        self.literals[self.end] = literal;
+        self.end += 1;
+    }
 }
+
+// That the values fit the clauses, `Ready`, stays a clause below: the values are lent to be changed, and a type would have to show it anew at each store.
 
 // The first place from `from` on at which the look at a clause stops: at its 0, and at a literal that is neither false nor the one passed over.
 fn stop_of(clauses: &[i16], from: usize, passed: i16, values: &[i8]) -> usize
@@ -32,23 +51,21 @@ fn stop_of(clauses: &[i16], from: usize, passed: i16, values: &[i8]) -> usize
     requires from_in_bounds { from < length clauses.now }
     ensures { Stop clauses.now values.now from passed result }
 {
-    let mut at = from;
-    loop {
+    for at in from..clauses.len() {
         let literal = clauses[at];
         if literal == 0 {
             return at;
         }
-        if literal != passed {
-            if plan::value_of(values, literal) != -1 {
-                return at;
-            }
+        if literal != passed && plan::value_of(values, literal) != -1 {
+            return at;
         }
-        at += 1;
     }
+    // The table's last number is a 0.
+    unreachable!()
 }
 
-// Looks at the clause that begins at `at`. A repeated literal is passed over, so it counts once.
-fn look_at(clauses: &[i16], at: usize, values: &[i8]) -> Said
+// Looks at the clause that begins at `at`: what it gives, if anything. A repeated literal is passed over, so it counts once.
+fn look_at(clauses: &[i16], at: usize, values: &[i8]) -> Result<Option<i16>, Clash>
     requires ready { Ready clauses.now values.now }
     requires at_in_bounds { at < length clauses.now }
     ensures { SaysAt clauses.now at values.now result }
@@ -56,199 +73,130 @@ fn look_at(clauses: &[i16], at: usize, values: &[i8]) -> Said
     let first = stop_of(clauses, at, 0, values);
     let literal = clauses[first];
     if literal == 0 {
-        return Said::Clash;
+        return Err(Clash);
     }
     if plan::value_of(values, literal) == 1 {
-        return Said::Nothing;
+        return Ok(None);
     }
     let second = stop_of(clauses, first + 1, literal, values);
     if clauses[second] != 0 {
-        return Said::Nothing;
+        return Ok(None);
     }
-    Said::Gives(literal)
+    Ok(Some(literal))
 }
 
 // Looks at the clause that begins at `at`, and adds what it gives to the assignment and to the queue.
-fn apply(
-    clauses: &[i16],
-    at: usize,
-    values: &mut [i8],
-    queue: &mut [i16; Assignment::MAX],
-    end: usize,
-) -> Followed
+fn apply(clauses: &[i16], at: usize, values: &mut [i8], queue: &mut Queue) -> Result<(), Clash>
     requires ready { Ready clauses.now values.old }
     requires at_in_bounds { at < length clauses.now }
-    requires values_bound { end + opens values.old ≤ max_variables }
-    ensures { Applied clauses.now at values.old values.new queue.old queue.new end result }
+    requires values_bound { queue.old.end + opens values.old ≤ max_variables }
+    ensures { Applied clauses.now at values.old values.new queue.old.literals queue.new.literals queue.old.end queue.new.end result }
 {
-    let said = look_at(clauses, at, values);
-    match said {
-        Said::Clash => Followed {
-            clash: true,
-            end: end,
-        },
-        Said::Gives(literal) => {
-            plan::put(values, literal);
-            queue[end] = literal;
-            Followed {
-                clash: false,
-                end: end + 1,
-            }
-        }
-        Said::Nothing => Followed {
-            clash: false,
-            end: end,
-        },
+    if let Some(literal) = look_at(clauses, at, values)? {
+        plan::put(values, literal);
+        queue.push(literal);
     }
+    Ok(())
 }
 
 // Looks at every clause once.
-fn pass(clauses: &[i16], values: &mut [i8], queue: &mut [i16; Assignment::MAX]) -> Followed
+fn pass(clauses: &[i16], values: &mut [i8], queue: &mut Queue) -> Result<(), Clash>
     requires ready { Ready clauses.now values.old }
-    requires queue_len { length queue.old ≡ max_variables }
-    ensures { Follows clauses.now values.old values.new queue.new 0 result }
+    requires queue_empty { queue.old.end ≡ 0 }
+    ensures { Follows clauses.now values.old values.new queue.new.literals 0 queue.new.end result }
 {
-    let mut end = 0;
     let mut at = 0;
+    // A step is as long as the clause.
     while at < clauses.len() {
-        let followed = apply(clauses, at, values, queue, end);
-        if followed.clash {
-            return followed;
-        }
-        end = followed.end;
+        apply(clauses, at, values, queue)?;
         at = plan::clauses::end_of(clauses, at) + 1;
     }
-    Followed {
-        clash: false,
-        end: end,
-    }
+    Ok(())
 }
 
 // Looks at every clause that holds the opposite of the literal at the queue's `head`.
 fn follow(
-    clauses: &[i16],
-    places: &[u16; Index::TABLE],
+    clauses: &IndexedClauses,
     head: usize,
     values: &mut [i8],
-    queue: &mut [i16; Assignment::MAX],
-    tail: usize,
-) -> Followed
-    requires ready { Ready clauses.now values.old }
-    requires indexed { Indexed clauses.now places.now }
-    requires head_lt_tail { head < tail }
-    requires pending { Pending clauses.now None values.old queue.old head tail }
-    ensures { Follows clauses.now values.old values.new queue.new (head + 1) result }
+    queue: &mut Queue,
+) -> Result<(), Clash>
+    requires ready { Ready clauses.now.table.now values.old }
+    requires head_lt_end { head < queue.old.end }
+    requires pending { Pending clauses.now.table.now NoClause values.old queue.old.literals head queue.old.end }
+    ensures { Follows clauses.now.table.now values.old values.new queue.new.literals (head + 1) queue.new.end result }
 {
-    let mut end = tail;
-    let mut place = index::first_place(places, plan::opposite(queue[head]));
-    while place < clauses.len() {
-        let followed = apply(
-            clauses,
-            plan::clauses::start_of(clauses, place),
-            values,
-            queue,
-            end,
-        );
-        if followed.clash {
-            return followed;
-        }
-        end = followed.end;
-        place = index::next_place(places, place);
+    let mut place = clauses
+        .index
+        .first_place(plan::opposite(queue.literals[head]));
+    // The index leads from place to place, and behind the last one to the table's length.
+    while place < clauses.table.len() {
+        let at = plan::clauses::start_of(clauses.table, place);
+        apply(clauses.table, at, values, queue)?;
+        place = clauses.index.next_place(place);
     }
-    Followed {
-        clash: false,
-        end: end,
-    }
+    Ok(())
 }
 
-// Follows every literal of the queue. True: a clash.
-fn follow_all(
-    clauses: &[i16],
-    places: &[u16; Index::TABLE],
-    values: &mut [i8],
-    queue: &mut [i16; Assignment::MAX],
-    tail: usize,
-) -> bool
-    requires ready { Ready clauses.now values.old }
-    requires indexed { Indexed clauses.now places.now }
-    requires pending { Pending clauses.now None values.old queue.old 0 tail }
-    ensures { Propagated clauses.now values.old values.new result }
+// Follows every literal of the queue.
+fn follow_all(clauses: &IndexedClauses, values: &mut [i8], queue: &mut Queue) -> Result<(), Clash>
+    requires ready { Ready clauses.now.table.now values.old }
+    requires pending { Pending clauses.now.table.now NoClause values.old queue.old.literals 0 queue.old.end }
+    ensures { Propagated clauses.now.table.now values.old values.new result }
 {
-    let mut end = tail;
     let mut head = 0;
-    while head < end {
-        let followed = follow(clauses, places, head, values, queue, end);
-        if followed.clash {
-            return true;
-        }
-        end = followed.end;
+    // The queue grows while it is followed.
+    while head < queue.end {
+        follow(clauses, head, values, queue)?;
         head += 1;
     }
-    false
+    Ok(())
 }
 
-// Adds all that the clauses give. `tried` is the literal that was added to a closed set, or 0 where nothing is known. True: a clash.
+// Adds all that the clauses give. `tried` is the literal that was added to a closed set; `None` where nothing is known.
 pub fn propagate(
-    clauses: &[i16],
-    places: &[u16; Index::TABLE],
-    tried: i16,
+    clauses: &IndexedClauses,
+    tried: Option<i16>,
     values: &mut [i8],
-) -> bool
-    requires ready { Ready clauses.now values.old }
-    requires indexed { Indexed clauses.now places.now }
-    requires known { Known clauses.now values.old tried }
-    ensures { Propagated clauses.now values.old values.new result }
+) -> Result<(), Clash>
+    requires ready { Ready clauses.now.table.now values.old }
+    requires known { Known clauses.now.table.now values.old tried }
+    ensures { Propagated clauses.now.table.now values.old values.new result }
 {
-    let mut queue = [0i16; Assignment::MAX];
-    if tried != 0 {
-        queue[0] = tried;
-        return follow_all(clauses, places, values, &mut queue, 1);
+    let mut queue = Queue::new();
+    match tried {
+        Some(tried) => queue.push(tried),
+        None => pass(clauses.table, values, &mut queue)?,
     }
-    let passed = pass(clauses, values, &mut queue);
-    if passed.clash {
-        return true;
-    }
-    follow_all(clauses, places, values, &mut queue, passed.end)
+    follow_all(clauses, values, &mut queue)
 }
 
-// Queues the literals that `values` has and `before` has not. Returns the queue's end.
-fn queue_changes(
-    before: &[i8; Assignment::MAX],
-    values: &[i8],
-    queue: &mut [i16; Assignment::MAX],
-) -> usize
+// Queues the literals that `values` has and `before` has not.
+fn queue_changes(before: &[i8; Assignment::MAX], values: &[i8]) -> Queue
     requires assigned { Assigned (length values.now) values.now }
     requires values_len_bound { length values.now ≤ max_variables }
     requires above { Above before.now values.now }
-    requires queue_len { length queue.old ≡ max_variables }
-    ensures { Queued before.now values.now queue.new result }
+    ensures { Queued before.now values.now result.literals result.end }
 {
-    let mut end = 0;
-    let mut i = 0;
-    while i < values.len() {
-        let value = values[i];
-        if value != before[i] {
-            queue[end] = plan::literal_of(i + 1, value > 0);
-            end += 1;
+    let mut queue = Queue::new();
+    for (i, value) in values.iter().enumerate() {
+        if *value != before[i] {
+            queue.push(plan::literal_of(i + 1, *value > 0));
         }
-        i += 1;
     }
-    end
+    queue
 }
 
-// Adds all that the clauses give behind an assignment in which every clause was quiet. True: a clash.
+// Adds all that the clauses give behind an assignment in which every clause was quiet.
 pub fn propagate_changes(
-    clauses: &[i16],
-    places: &[u16; Index::TABLE],
+    clauses: &IndexedClauses,
     before: &[i8; Assignment::MAX],
     values: &mut [i8],
-) -> bool
-    requires ready { Ready clauses.now values.old }
-    requires indexed { Indexed clauses.now places.now }
-    requires since { Since clauses.now before.now values.old }
-    ensures { Propagated clauses.now values.old values.new result }
+) -> Result<(), Clash>
+    requires ready { Ready clauses.now.table.now values.old }
+    requires since { Since clauses.now.table.now before.now values.old }
+    ensures { Propagated clauses.now.table.now values.old values.new result }
 {
-    let mut queue = [0i16; Assignment::MAX];
-    let end = queue_changes(before, values, &mut queue);
-    follow_all(clauses, places, values, &mut queue, end)
+    let mut queue = queue_changes(before, values);
+    follow_all(clauses, values, &mut queue)
 }
