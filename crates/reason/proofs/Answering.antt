@@ -2,21 +2,24 @@
 -- Assumes nothing.
 use mathlib.Core.Path.{refl, subst}
 use mathlib.Core.Logic.{◌↔◌, inl, inr, ⊎_elim}
-use mathlib.Core.Bool.{Bool, true, false, true≢false, false≢true}
+use mathlib.Core.Bool.{Bool, true, false}
 use mathlib.Core.List.{List, Memᴰ}
 use Prim.Native.Nat.{ℕ, suc, ◌≤◌}
 use lib.ListN.{get_or, replicate}
 use lib.IntN.{ℤ}
 use lib.Dec.{T}
+use Rattle.std.specs.Prelude.{Result, Ok, Err, MatchResult}
+use Rattle.std.specs.Result.{result_map_both}
+use Rattle.plan.specs.Buffers.{Answered}
+use Rattle.plan.specs.declared.refusal.Short.{Short}
 use Rattle.plan.specs.Meaning.{Atom, PlanFile, edge, on, off, true_in}
 use Rattle.plan.specs.Closing.{Settles}
 use Rattle.plan.specs.Reason.{Cut, HoldsBy, FailsBy}
 use Rattle.plan.proofs.Lists.{mem_at}
 use Rattle.walk.specs.Walking.{Placed}
-use Rattle.reason.specs.Answers.{AnswerIs, Answers}
+use Rattle.reason.specs.Answers.{TooLong, AnswerIs}
+use Rattle.reason.specs.declared.Answer.TheVariants.{Holds, Fails}
 use Rattle.reason.specs.Marks.{Away, PathMarked, premises, clause_of}
-use Rattle.reason.specs.declared.Answer.{Answer}
-use Rattle.reason.specs.declared.Answer.TheVariants.{Holds, Fails, Open, Short}
 use Rattle.reason.proofs.Paths.{path_placed}
 use Rattle.reason.proofs.Cuts.{blank}
 use Rattle.reason.proofs.Listing.{listed_marks}
@@ -46,16 +49,14 @@ module _ (φ : PlanFile) (a : List ℤ) (A : Atom) (n : ℕ) (m : List Bool) (pl
     clause = refl;
   }
 
--- the answer that the clause of a reason gives
+-- the answer that the clause of a reason gives, where it is written and where there is no room
 module _ (φ : PlanFile) (a : List ℤ) (A : Atom) (C before after : List ℤ) where
-  pub answer_holds : (x : Answer) → HoldsBy φ a A C → Answers true C x before after → AnswerIs φ a A x before after
-  answer_holds (Holds n) h w = (C, h, w.1)
-  answer_holds (Fails n) h w = absurd (true≢false w.0)
-  answer_holds Open h w = absurd w
-  answer_holds (Short n) h w = (C, inl h, w)
+  pub answer_holds : (r : Result ℕ Short) → HoldsBy φ a A C → MatchResult r (Answered C before after) (λ short. TooLong C before after short.0)
+      → AnswerIs φ a A (result_map_both Holds (λ short. short) r) before after
+  answer_holds (Ok n) h w = (C, h, w)
+  answer_holds (Err short) h w = (C, inl h, w)
 
-  pub answer_fails : (x : Answer) → FailsBy φ a A C → Answers false C x before after → AnswerIs φ a A x before after
-  answer_fails (Holds n) h w = absurd (false≢true w.0)
-  answer_fails (Fails n) h w = (C, h, w.1)
-  answer_fails Open h w = absurd w
-  answer_fails (Short n) h w = (C, inr h, w)
+  pub answer_fails : (r : Result ℕ Short) → FailsBy φ a A C → MatchResult r (Answered C before after) (λ short. TooLong C before after short.0)
+      → AnswerIs φ a A (result_map_both Fails (λ short. short) r) before after
+  answer_fails (Ok n) h w = (C, h, w)
+  answer_fails (Err short) h w = (C, inr h, w)

@@ -8,11 +8,12 @@ use Prim.Native.Nat.{ℕ, zero, suc, ◌+◌, ◌≤◌, ◌<◌}
 use native.Mathlib.Omega.{arith}
 use lib.ListN.{length, get_or, replicate}
 use lib.IntN.{ℤ}
-use lib.Dec.{T, T_not}
+use lib.Dec.{T}
 use Rattle.plan.specs.Meaning.{Edge, Atom, PlanFile, Graph, edge, cost_of, true_in, off}
 use Rattle.plan.specs.Reason.{Across, LeavesAt, EndsBeyond, Cut}
 use Rattle.plan.specs.declared.Kind.{Kind}
 use Rattle.plan.proofs.Lists.{le_or_lt}
+use Rattle.walk.specs.declared.distances.Distances.{Distances}
 use Rattle.walk.specs.Walking.{reached_in, distance_in, DistanceTable}
 use Rattle.walk.proofs.Truths.{reached_distance, distance_reached, distance_is}
 use Rattle.reason.specs.Marks.{MarksAlso, Crossing, CutAt, CutBelow}
@@ -26,19 +27,10 @@ module _ (a : List ℤ) (v : ℕ) {r : Bool} (is : r ≡ not (true_in a (off v))
       go true h = tt
       go false h = let z : ◌≡◌ {A = ℕ} 0 1 = cc in absurd (omega arith)
 
-  pub not_off : r ≡ true → T (true_in a (off v)) → ⊥
-  not_off e t = T_not (true_in a (off v)) (subst (λ b. T b) (sym e ∙ is) tt) t
-
 -- an edge by the distances of its ends
-module _ (kind : Kind) (bound : ℕ) {es : List Edge} {g : Graph} {s : ℕ} {d : List ℕ} (x : DistanceTable (cost_of kind) es g s d) (e : Edge) where
+module _ (kind : Kind) (bound : ℕ) {es : List Edge} {g : Graph} {s : ℕ} {d : Distances} (x : DistanceTable (cost_of kind) es g s d) (e : Edge) where
   abbrev near : ℕ
   near = distance_in d e.from
-
-  pub across_unreached : (T (reached_in d e.from) → ⊥) → Across kind es g bound s e → ⊥
-  across_unreached n c = n (distance_reached x e.from c.0 c.1)
-
-  pub across_late : (LeavesAt kind bound near → ⊥) → Across kind es g bound s e → ⊥
-  across_late n c = n (subst (LeavesAt kind bound) (sym (distance_is x e.from c.0 c.1)) c.2)
 
   module _ (start : T (reached_in d e.from)) (soon : LeavesAt kind bound near) where
     pub across_none : (T (reached_in d e.to) → ⊥) → Across kind es g bound s e

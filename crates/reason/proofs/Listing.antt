@@ -2,16 +2,18 @@
 -- Assumes nothing.
 use mathlib.Core.Path.{◌≡◌, refl, sym, ap, subst, ◌∙◌}
 use mathlib.Core.Logic.{◌↔◌, ⊎_elim}
-use mathlib.Core.Bool.{Bool, true, false, true≢false, false≢true}
+use mathlib.Core.Bool.{Bool, true, false, cond}
 use mathlib.Core.List.Memᴰ
 use mathlib.Core.List.{List, [], ◌∷◌, ◌++◌, append-nil, append_assoc, map, map-append, Memᴰ}
 use Prim.Native.Nat.{ℕ, zero, suc, ◌+◌, ◌≤◌, ◌<◌}
 use native.Mathlib.Omega.{arith}
 use native.Mathlib.Numerals.{add-one}
-use lib.ListN.{length, get_or, set, drop, length-append, length-drop, length-map}
+use lib.ListN.{length, get_or, set, take, drop, length-append, length-drop, length-map}
 use lib.Seq.{drop-cons, set_at}
 use lib.IntN.{ℤ}
 use lib.Dec.{T}
+use Rattle.std.specs.Prelude.{filter}
+use Rattle.std.proofs.lemmas.List.Filters.{length-filter_more}
 use Rattle.plan.specs.Meaning.{literal_of}
 use Rattle.plan.specs.Buffers.{Wrote}
 use Rattle.plan.specs.Reason.{Rising, end, more, Listed}
@@ -81,6 +83,10 @@ pub premises_count : (m : List Bool) (n v : ℕ) → length (premises m (suc n))
 unfolding premises
 premises_count m n v = length-append (premises m n) _ ∙ ap (λ (k : ℕ). length (premises m n) + k) (piece_length (get_or m n false) (suc n) v)
 
+one_piece : (b : Bool) (v : ℕ) → length (piece b v) ≡ cond b 1 0
+one_piece true v = refl
+one_piece false v = refl
+
 pub premises_zero : (m : List Bool) → premises m 0 ≡ []
 unfolding premises
 premises_zero m = refl
@@ -96,12 +102,23 @@ premises_fewer m k (suc n) l = ⊎_elim
     (λ s. omega (arith, premises_fewer m k n (omega arith), premises_count m n 0))
     (le_or_lt (suc n) k)
 
+-- as many as marks are set
+pub premises_set : (m : List Bool) (n : ℕ) → n ≤ length m → length (premises m n) ≡ length (filter (λ b. b) (take n m))
+premises_set m zero l = ap length (premises_zero m)
+premises_set m (suc n) l =
+    let more = rw add-one at (length-filter_more (λ b. b) m n false (omega arith)) in
+    omega (arith, premises_set m n (omega arith), premises_count m n 0, one_piece (get_or m n false) 0, more)
+
+-- a marked one is one more
+premises_more : (m : List Bool) (k n : ℕ) → k < n → get_or m k false ≡ true → length (premises m k) < length (premises m n)
+premises_more m k n l e = omega (arith, premises_fewer m (suc k) n l, rw e at (premises_count m k 0))
+
 -- ---- the buffer
 
 pub appends_none : (at : ℕ) (out : List ℤ) → Appends at [] out out at
 appends_none at out = record { ends = omega arith; wrote = λ w before e s. subst (λ x. Wrote x before out) (sym (append-nil w)) s }
 
-appends_one : (at : ℕ) (x : ℤ) (out : List ℤ) → at < length out → Appends at (x ∷ []) out (set out at x) (at + 1)
+pub appends_one : (at : ℕ) (x : ℤ) (out : List ℤ) → at < length out → Appends at (x ∷ []) out (set out at x) (at + 1)
 appends_one at x out l = record { ends = refl; wrote = there }
   where
     there : (w before : List ℤ) → at ≡ length w → Wrote w before out → Wrote (w ++ (x ∷ [])) before (set out at x)
@@ -120,20 +137,21 @@ appends_then {mid = mid} {p = p} {q = q} {out'' = out''} f g = record {
       subst (λ x. Wrote x before out'') (append_assoc w p q) (g.wrote (w ++ p) before m (f.wrote w before e s));
 }
 
--- what one mark appends
-pub appends_unmarked : (b sign : Bool) (v at : ℕ) (out : List ℤ) → b ≡ false → Appends at (map (literal_of sign) (piece b v)) out out at
-appends_unmarked true sign v at out e = absurd (true≢false e)
-appends_unmarked false sign v at out e = appends_none at out
-
-pub appends_marked : (b sign : Bool) (v at : ℕ) (out : List ℤ) → b ≡ true → at + length (piece b v) ≤ length out
-    → (at < length out) × Appends at (map (literal_of sign) (piece b v)) out (set out at (literal_of sign v)) (at + 1)
-appends_marked true sign v at out e l = (omega arith, appends_one at (literal_of sign v) out (omega arith))
-appends_marked false sign v at out e l = absurd (false≢true e)
-
 pub clause_length : (x : ℤ) (sign : Bool) (m : List Bool) (n : ℕ) → length (clause_of x sign m n) ≡ suc (length (premises m n))
 clause_length x sign m n = ap suc (length-map (premises m n) (literal_of sign))
 
-pub premises_next : (sign : Bool) (m : List Bool) (n : ℕ)
+premises_next : (sign : Bool) (m : List Bool) (n : ℕ)
     → map (literal_of sign) (premises m n) ++ map (literal_of sign) (piece (get_or m n false) (n + 1)) ≡ map (literal_of sign) (premises m (n + 1))
 unfolding premises
 premises_next sign m n = rw (add-one n) (sym (map-append (literal_of sign) (premises m n) (piece (get_or m n false) (suc n))))
+
+-- one variable more, which is marked or not
+module _ (sign : Bool) (m : List Bool) (n : ℕ) {at end : ℕ} {out mid : List ℤ} (so_far : Appends at (map (literal_of sign) (premises m n)) out mid end) where
+  pub room : get_or m n false ≡ true → (total : ℕ) → n < total → at + length (premises m total) ≤ length mid → end < length mid
+  room e total l r = omega (arith, premises_more m n total l e, so_far.ends, length-map (premises m n) (literal_of sign), r)
+
+  pub appends_marked : get_or m n false ≡ true → end < length mid → Appends at (map (literal_of sign) (premises m (n + 1))) out (set mid end (literal_of sign (n + 1))) (end + 1)
+  appends_marked e l = subst (λ p. Appends at p out (set mid end (literal_of sign (n + 1))) (end + 1)) (rw e at (premises_next sign m n)) (appends_then so_far (appends_one end (literal_of sign (n + 1)) mid l))
+
+  pub appends_unmarked : get_or m n false ≡ false → Appends at (map (literal_of sign) (premises m (n + 1))) out mid end
+  appends_unmarked e = subst (λ p. Appends at p out mid end) (rw e at (premises_next sign m n)) (appends_then so_far (appends_none end mid))

@@ -2,18 +2,18 @@
 -- Assumes nothing.
 use mathlib.Core.Path.{◌≡◌, refl, sym, ap, subst, subst₂, ◌∙◌}
 use mathlib.Core.Logic.{◌↔◌, ◌⊎◌, inl, inr, ⊎_elim}
-use mathlib.Core.Bool.{Bool, true, false}
+use mathlib.Core.Bool.{Bool}
 use mathlib.Core.List.Memᴰ
 use mathlib.Core.List.{List, [], ◌∷◌, Memᴰ}
 use Prim.Native.Nat.{ℕ, suc, ◌+◌, ◌-◌, ◌≤◌, ◌<◌}
-use native.Mathlib.Decide.{ℕ_discrete}
 use native.Mathlib.Omega.{arith}
-use lib.ListN.{length, get_or, set, length-set}
-use lib.Seq.{get_or-set_same, get_or-set_other}
+use lib.ListN.{length, get_or}
 use lib.IntN.{ℤ}
-use lib.Dec.{T}
 use Rattle.plan.specs.Meaning.{Edge, Atom, Graph, Cost, edge, measure_of, cost_of}
 use Rattle.plan.specs.Reason.{Nearer, Back, source, step}
+use Rattle.plan.specs.Tables.{edges_of, edge_of}
+use Rattle.plan.specs.declared.Edge as struct-of-edge
+use Rattle.plan.proofs.ByPlace.{blank_edge, edges_at, edge_listed}
 use Rattle.plan.proofs.Lists.{mem_at}
 use Rattle.plan.proofs.Walks.{pays_by}
 use Rattle.plan.proofs.Explain.{last_nearer}
@@ -21,20 +21,6 @@ use Rattle.walk.specs.Walking.{Placed}
 use Rattle.reason.specs.Marks.{Fits, EdgeFits, MarksAlso, holding, Away, Leads, FirstNearer, PathMarked}
 
 -- ---- marks
-
-pub marks_one : (m : List Bool) (v : ℕ) → 1 ≤ v → v ≤ length m → MarksAlso (λ w. w ≡ v) m (set m (v - 1) true)
-marks_one m v low high = record { long = length-set m (v - 1) true; exact = at }
-  where
-    at : (i : ℕ) → T (get_or (set m (v - 1) true) i false) ↔ (T (get_or m i false) ⊎ (suc i ≡ v))
-    at i = elim (ℕ_discrete i (v - 1)) [
-      | yes e ↦ (
-        (λ t. inr (omega arith)),
-        (λ q. subst (λ (k : ℕ). T (get_or (set m k true) i false)) e (subst (λ b. T b) (sym (get_or-set_same m i true false (omega arith))) tt)),
-      )
-      | no n ↦
-          let same = get_or-set_other m (v - 1) i true false n in
-          ((λ t. inl (subst (λ b. T b) same t)), (λ q. ⊎_elim (λ t. subst (λ b. T b) (sym same) t) (λ (p : suc i ≡ v). absurd (n (omega arith))) q))
-    ]
 
 pub marks_none : {P : ℕ → Type 0} (m : List Bool) → ((v : ℕ) → P v → ⊥) → MarksAlso P m m
 marks_none m n = record { long = refl; exact = λ i. ((λ t. inl t), (λ q. ⊎_elim (λ t. t) (λ p. absurd (n (suc i) p)) q)) }
@@ -73,6 +59,9 @@ edge_fits {e = e} f m =
     let p = f.placed e m in
     record { from_in = i.0; to_in = i.1; low = p.0; high = p.1 }
 
+pub place_fits : (es : List struct-of-edge.Edge) {a : List ℤ} → Fits (edges_of es) a → (k : ℕ) → k < length es → EdgeFits a (edge_of (get_or es k blank_edge))
+place_fits es f k l = edge_fits {e = edge_of (get_or es k blank_edge)} f (rw (edges_at es k) (edge_listed es k l))
+
 module _ (es : List Edge) (a : List ℤ) (A : Atom) {node k : ℕ} where
   -- an edge as the code reads it
   module _ {e : Edge} (j : ℕ) (is : e ≡ edge es j) where
@@ -98,9 +87,6 @@ module _ (es : List Edge) (a : List ℤ) (A : Atom) {node k : ℕ} where
 
     nearer_by : k ≡ f.1.is.before + cost
     nearer_by = f.1.is.sum ∙ ap (λ (i : ℕ). f.1.is.before + i) (ap (cost_of A.kind) (sym f.2) ∙ sym paid)
-
-    pub cost_high : cost ≤ k
-    cost_high = omega (arith, nearer_by)
 
     -- its start is nearer by that
     module _ (from : ℕ) (u : from ≡ e.from) where

@@ -7,6 +7,7 @@ use Rattle.plan.specs.Buffers.{Wrote}
 use Rattle.plan.specs.Closing.{settling}
 use Rattle.plan.specs.Ranged.{max_nodes, max_variables, max_edges, EndsFit}
 use Rattle.plan.specs.Reason.{Smallest, Nearer, Back, Across, Cut}
+use Rattle.walk.specs.declared.distances.Distances.{Distances}
 use Rattle.walk.specs.Walking.{Inside, Placed, Settling}
 use Rattle.reason.specs.Answers.{Over}
 
@@ -17,11 +18,6 @@ pub record Fits (es : List Edge) (a : List ℤ) : Type 0 where
   pub long : (e : Edge) → Memᴰ e es → 1 ≤ e.length
   pub edges : length es ≤ max_edges
   pub few : length a ≤ max_variables
-
--- And with them the distances by which the atom holds (true) or fails (false).
-pub record Told (es : List Edge) (a : List ℤ) (A : Atom) (b : Bool) (d : List ℕ) : Type 0 where
-  pub fits : Fits es a
-  pub table : Settling es a A b d
 
 abbrev pub EdgeFits : List ℤ → Edge → Type 0
 EdgeFits a e = EndsFit max_nodes (length a) e.from e.to e.variable
@@ -48,7 +44,7 @@ pub record Leads (es : List Edge) (a : List ℤ) (A : Atom) (node k : ℕ) (e : 
   pub near : Away es a A e.from before
   pub sum : k ≡ before + cost_of A.kind e
 
-abbrev pub LeadsNearer : List ℤ → Atom → Edge → List ℕ → ℕ → ℕ → Bool → Type 0
+abbrev pub LeadsNearer : List ℤ → Atom → Edge → Distances → ℕ → ℕ → Bool → Type 0
 LeadsNearer a A e d node k r = (es : List Edge) → Settling es a A true d → T r ↔ Leads es a A node k e
 
 -- The edge is the smallest-numbered one with which a cheapest walk to the node ends.
@@ -67,7 +63,7 @@ pub record PathMarked (es : List Edge) (a : List ℤ) (A : Atom) (node k : ℕ) 
 abbrev pub Crossing : List Edge → List ℤ → Atom → Edge → Type 0
 Crossing es a A e = T (true_in a (off e.variable)) × Across A.kind es (graph_of (settling A.kind false) (true_in a)) A.bound A.from e
 
-abbrev pub Crosses : List ℤ → Atom → Edge → List ℕ → Bool → Type 0
+abbrev pub Crosses : List ℤ → Atom → Edge → Distances → Bool → Type 0
 Crosses a A e d r = (es : List Edge) → Settling es a A false d → T r ↔ Crossing es a A e
 
 -- The variable is in the cut, by the edge numbered n or by one numbered below n.

@@ -1,99 +1,106 @@
 -- `reason::reason`: the reason of the atom that is asked for, by what the two walks say of it.
 use mathlib.Core.Path.{◌≡◌, refl, subst}
-use mathlib.Core.Bool.{true, false}
+use mathlib.Core.Bool.{Bool, true, false}
 use mathlib.Core.List.{List, Memᴰ}
-use Prim.Native.Nat.{ℕ, ◌≤◌, ◌<◌}
+use Prim.Native.Nat.{ℕ, ◌<◌}
 use native.Mathlib.Omega.{arith}
+use lib.Dec.{T}
 use lib.IntN.{ℤ}
-use Rattle.plan.specs.Closing.{Settled}
-use Rattle.plan.specs.Meaning.{Edge, Atom, PlanFile, atom, true_in}
-use Rattle.plan.specs.Ranged.{max_nodes, max_variables}
+use lib.ListN.{length, get_or, replicate}
+use borrow.Author.Rules.{rules}
+use Rattle.std.specs.Prelude.{Result, Ok}
+use Rattle.std.specs.Result.{result_map_both}
+use Rattle.plan.specs.Meaning.{Edge, Atom, PlanFile, on, off}
+use Rattle.plan.specs.Ranged.{max_nodes, EndsFit}
+use Rattle.plan.specs.Search.{Assigned}
 use Rattle.plan.specs.Tables.{edges_of, atoms_of, atom_of}
-use Rattle.plan.specs.declared.State.{State}
+use Rattle.plan.specs.Reason.{HoldsBy, FailsBy}
 use Rattle.plan.specs.declared.State.TheVariants as state
-use Rattle.plan.proofs.Tables.{atoms_length}
-use Rattle.plan.proofs.Lists.{mem_at}
-use Rattle.walk.specs.Walking.{Settling, SettledBy}
-use Rattle.walk.proofs.Lending.{lent_inside, lent_placed, atom_from, atom_to}
-use Rattle.reason.specs.Answers.{AnswerIs, Over, Asked, with_edges}
-use Rattle.reason.specs.Marks.{Fits}
+use Rattle.plan.specs.declared.refusal.Short.{Short}
+use Rattle.plan.specs.declared.tables.Tables.{Tables}
+use Rattle.plan.proofs.ByPlace.{blank_atom, atoms_at, atom_listed}
+use Rattle.walk.specs.declared.distances.Distances.{Distances}
+use Rattle.walk.specs.Walking.{Placed, Settling, SettledBy, reached_in, distance_in}
+use Rattle.walk.proofs.Lending.{lent_inside, lent_placed, edges_few, atom_from, atom_to}
+use Rattle.walk.proofs.Truths.{reached_distance, distance_reached}
+use Rattle.reason.specs.Answers.{AnswerIs, with_edges}
+use Rattle.reason.specs.Marks.{Fits, PathMarked, MarksCut, clause_of}
 use Rattle.reason.specs.declared.Answer.{Answer}
-use Rattle.reason.specs.declared.Answer.TheVariants.{Open}
+use Rattle.reason.specs.declared.Answer.TheVariants.{Holds, Fails, Open}
+use Rattle.reason.proofs.Answering.{holds_by, fails_by, answer_holds, answer_fails}
+use Rattle.reason.proofs.Cuts.{bare}
 use Rattle.reason.proofs.reason.Goals as goal
 
 -- what is asked
-module _ {es bs : List ℕ} {a : List ℤ} {number : ℕ} (asked : Asked es bs a number) where
-  fits : Fits (edges_of es) a
+module _ (t : Tables) (a : List ℤ) (assigned : Assigned t.plan.variables a) where
+  fits : Fits (edges_of t.edges.now) a
   fits = record {
-    inside = lent_inside asked.lent;
-    placed = lent_placed asked.lent _ asked.assigned.long;
-    long = λ e m. (asked.lent.ranged.long e m).low;
-    edges = asked.lent.ranged.edges;
-    few = omega (arith, asked.assigned.long, asked.lent.ranged.variables);
+    inside = lent_inside t.lent;
+    placed = lent_placed t.lent _ assigned.long;
+    long = λ e m. (t.lent.ranged.long e m).low;
+    edges = edges_few t.lent;
+    few = omega (arith, assigned.long, t.lent.ranged.variables);
   }
 
-  -- the atom that is asked for
-  module _ {A : Atom} (is : A ≡ atom (atoms_of bs) number) where
-    its : Memᴰ A (atoms_of bs)
-    its = rw is (mem_at (atoms_of bs) _ number (omega (arith, atoms_length bs asked.plan.atoms asked.lent.atoms, asked.inside)))
+  ends : (number : ℕ) → number < length t.atoms.now → let A = get_or t.atoms.now number blank_atom in EndsFit max_nodes (length a) A.from A.to A.variable
+  ends number n =
+      let m : Memᴰ (atom_of (get_or t.atoms.now number blank_atom)) (atoms_of t.atoms.now) = rw (atoms_at t.atoms.now number) (atom_listed t.atoms.now number n) in
+      let f = t.lent.ranged.atom _ m in
+      record { from_in = atom_from t.lent _ m; to_in = atom_to t.lent _ m; low = f.low; high = omega (arith, f.high, assigned.long) }
 
-    from_in : A.from < max_nodes
-    from_in = atom_from asked.lent _ its
+-- what the two walks say of the atom: the marks of the path, or of the cut, give the reason
+module _ (es : List Edge) (a : List ℤ) (A : Atom) (placed : Placed es (length a)) (u o : Distances) (holding : Settling es a A true u) (failing : Settling es a A false o) where
+  reached : SettledBy A u o state.Holds → T (reached_in u A.to)
+  reached by = let t = by (with_edges es bare) a holding failing in distance_reached holding A.to t.0 t.1
 
-    to_in : A.to < max_nodes
-    to_in = atom_to asked.lent _ its
+  holds : SettledBy A u o state.Holds → (m : List Bool) → PathMarked es a A A.to (distance_in u A.to) (replicate 512 false) m → (φ : PlanFile)
+      → HoldsBy (with_edges es φ) a A (clause_of (on A.variable) false m (length a))
+  holds by m path φ =
+      holds_by (with_edges es φ) a A (length a) m placed 512 (distance_in u A.to) (by (with_edges es φ) a holding failing) (reached_distance holding A.to (reached by)) path
 
-    variable_in : A.variable ≤ max_variables
-    variable_in = omega (arith, (asked.lent.ranged.atom _ its).high, asked.lent.ranged.variables)
+  fails : SettledBy A u o state.Fails → (m : List Bool) → MarksCut es a A m → (φ : PlanFile) → FailsBy (with_edges es φ) a A (clause_of (off A.variable) true m (length a))
+  fails by m cut φ = fails_by (with_edges es φ) a A (length a) m placed (by (with_edges es φ) a holding failing) (cut φ)
 
 -- what is answered for that atom
-answers : (φ : PlanFile) (a : List ℤ) {A B : Atom} → A ≡ B → (x : Answer) (old new : List ℤ) → AnswerIs φ a A x old new → AnswerIs φ a B x old new
+answers : (φ : PlanFile) (a : List ℤ) {A B : Atom} → A ≡ B → (x : Result Answer Short) (old new : List ℤ) → AnswerIs φ a A x old new → AnswerIs φ a B x old new
 answers φ a e x old new h = subst (λ C. AnswerIs φ a C x old new) e h
 
--- what the two walks say
-said : (es : List Edge) (a : List ℤ) (A : Atom) (u o : List ℕ) (r s : State) → Settling es a A true u → Settling es a A false o → SettledBy A u o r → r ≡ s
-    → Over es (λ φ. Settled φ (true_in a) A s)
-said es a A u o r s holding failing by e φ = subst (Settled (with_edges es φ) (true_in a) A) e (by (with_edges es φ) a holding failing)
+pub invariant_of-question : goal.invariant_of-question
+invariant_of-question c =
+    let t = c.args.tables.now in
+    let a = c.args.assignment.now in
+    record { fits = fits t a c.requires.assigned; ends = ends t a c.requires.assigned c.args.number c.requires.inside }
 
-pub distances_for-holding-requires : goal.distances_for-holding-requires
-distances_for-holding-requires c = record { fits = fits c.requires; from_lt_max_nodes = from_in c.requires c.atom_at-atom.ensures }
-
-pub distances_for-failing-requires : goal.distances_for-failing-requires
-distances_for-failing-requires c = record { fits = fits c.requires; from_lt_max_nodes = from_in c.requires c.atom_at-atom.ensures }
-
-pub settled-state-requires : goal.settled-state-requires
-settled-state-requires c = to_in c.requires c.atom_at-atom.ensures
-
-pub reason_holds-requires : goal.reason_holds-requires
-reason_holds-requires c =
-    record {
-      told = record { fits = fits c.requires; table = c.distances_for-holding.ensures };
-      to_lt_max_nodes = to_in c.requires c.atom_at-atom.ensures;
-      variable_le_max_variables = variable_in c.requires c.atom_at-atom.ensures;
-      over = said (edges_of c.args.edges.now) c.args.assignment.now (atom_of c.atom_at-atom.result) _ _ c.settled-state.result state.Holds
-          c.distances_for-holding.ensures c.distances_for-failing.ensures c.settled-state.ensures c.in-Holds.is;
-    }
-
-pub reason_fails-requires : goal.reason_fails-requires
-reason_fails-requires c =
-    record {
-      told = record { fits = fits c.requires; table = c.distances_for-failing.ensures };
-      variable_le_max_variables = variable_in c.requires c.atom_at-atom.ensures;
-      over = said (edges_of c.args.edges.now) c.args.assignment.now (atom_of c.atom_at-atom.result) _ _ c.settled-state.result state.Fails
-          c.distances_for-holding.ensures c.distances_for-failing.ensures c.settled-state.ensures c.in-Fails.is;
-    }
+pub marks-requires : goal.marks-requires
+marks-requires c =
+    let t = c.args.tables.now in
+    let A = atom_of (get_or t.atoms.now c.args.number blank_atom) in
+    reached (edges_of t.edges.now) c.args.assignment.now A (lent_placed t.lent _ c.requires.assigned.long) _ _ c.distances-holding.ensures c.distances-failing.ensures c.in-Holds.ensures
 
 pub returns-in-Holds : goal.returns-in-Holds
-returns-in-Holds c = λ φ. answers _ c.args.assignment.now c.atom_at-atom.ensures c.reason_holds.result _ _ (c.reason_holds.ensures φ)
+returns-in-Holds c =
+    let t = c.args.tables.now in
+    let a = c.args.assignment.now in
+    let A = atom_of (get_or t.atoms.now c.args.number blank_atom) in
+    let answer : c.map.result ≡ result_map_both Holds (λ (s : Short). s) c.write.result = search rules in
+    let reason = holds (edges_of t.edges.now) a A (lent_placed t.lent _ c.requires.assigned.long) _ _ c.distances-holding.ensures c.distances-failing.ensures c.in-Holds.ensures _ c.marks.ensures in
+    rw answer
+    (λ φ. answers (with_edges (edges_of t.edges.now) φ) a (atoms_at t.atoms.now c.args.number) (result_map_both Holds (λ s. s) c.write.result) c.args.out.now c.write.new.out
+    (answer_holds (with_edges (edges_of t.edges.now) φ) a A _ _ _ c.write.result (reason φ) c.write.ensures))
 
 pub returns-in-Fails : goal.returns-in-Fails
-returns-in-Fails c = λ φ. answers _ c.args.assignment.now c.atom_at-atom.ensures c.reason_fails.result _ _ (c.reason_fails.ensures φ)
+returns-in-Fails c =
+    let t = c.args.tables.now in
+    let a = c.args.assignment.now in
+    let A = atom_of (get_or t.atoms.now c.args.number blank_atom) in
+    let answer : c.map-in-Fails.result ≡ result_map_both Fails (λ (s : Short). s) c.write-in-Fails.result = search rules in
+    let reason = fails (edges_of t.edges.now) a A (lent_placed t.lent _ c.requires.assigned.long) _ _ c.distances-holding.ensures c.distances-failing.ensures c.in-Fails.ensures _ c.marks-in-Fails.ensures in
+    rw answer
+    (λ φ. answers (with_edges (edges_of t.edges.now) φ) a (atoms_at t.atoms.now c.args.number) (result_map_both Fails (λ s. s) c.write-in-Fails.result) c.args.out.now c.write-in-Fails.new.out
+    (answer_fails (with_edges (edges_of t.edges.now) φ) a A _ _ _ c.write-in-Fails.result (reason φ) c.write-in-Fails.ensures))
 
 pub returns-in-Open : goal.returns-in-Open
 returns-in-Open c =
-    λ φ.
-    answers (with_edges (edges_of c.args.edges.now) φ) c.args.assignment.now c.atom_at-atom.ensures Open c.args.out.now c.args.out.now (
-      said (edges_of c.args.edges.now) c.args.assignment.now (atom_of c.atom_at-atom.result) _ _ c.settled-state.result state.Open
-          c.distances_for-holding.ensures c.distances_for-failing.ensures c.settled-state.ensures c.in-Open.is φ,
-      refl,
-    )
+    let t = c.args.tables.now in
+    λ φ. answers (with_edges (edges_of t.edges.now) φ) c.args.assignment.now (atoms_at t.atoms.now c.args.number) (Ok Open) c.args.out.now c.args.out.now
+    (c.in-Open.ensures (with_edges (edges_of t.edges.now) φ) c.args.assignment.now c.distances-holding.ensures c.distances-failing.ensures, refl)
