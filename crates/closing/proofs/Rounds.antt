@@ -1,27 +1,26 @@
 -- Atoms and clauses in turn, to the end: what no rule changes any more is closed.
 -- Assumes nothing.
-use mathlib.Core.Path.{◌≡◌, refl, sym, subst, ◌∙◌}
+use mathlib.Core.Path.{refl, sym, subst, ◌∙◌}
 use mathlib.Core.Bool.{Bool, true, false, not}
 use mathlib.Core.List.{List, Memᴰ}
-use Prim.Native.Nat.{ℕ, ◌+◌, ◌*◌, ◌-◌, ◌≤◌, ◌<◌}
+use Prim.Native.Nat.{◌-◌}
 use native.Mathlib.Omega.{arith}
 use lib.ListN.{length}
 use lib.IntN.{ℤ}
 use lib.Dec.{T, T_not, not_T}
-use Rattle.plan.specs.Meaning.{Edge, Atom, PlanFile, no_edge, on, off, value, true_in, under, over, edge}
+use Rattle.plan.specs.Meaning.{Edge, Atom, PlanFile, on, off, true_in, under, over}
 use Rattle.plan.specs.Ranged.{Ranged}
 use Rattle.plan.specs.Closing.{Settles, unit, settled, Obeys}
 use Rattle.plan.specs.Search.{Assigned, Closes}
-use Rattle.plan.specs.Tables.{edges_of}
+use Rattle.plan.specs.Tables.{edges_of, BeginsWith}
+use Rattle.std.specs.Prelude.{Ok}
+use Rattle.plan.specs.declared.Edge as struct-of-edge
 use Rattle.plan.proofs.Closing.{edges_long}
 use Rattle.plan.proofs.Exists.{step_done}
-use Rattle.plan.proofs.Tables.{edges_most}
 use Rattle.plan.proofs.Values.{true_on, true_off, value_at_lem}
-use Rattle.plan.proofs.Lists.{at_mem}
 use Rattle.plan.proofs.Walks.{true_mono}
 use Rattle.walk.specs.Walking.{Placed}
 use Rattle.unit.specs.Onward.{Onward}
-use Rattle.unit.specs.Queue.{BeginsWith}
 use Rattle.unit.proofs.Steps.{onward_then, onward_fewer}
 use Rattle.closing.specs.Closed.{Looks}
 use Rattle.closing.specs.Atoms.{BothHeard}
@@ -41,33 +40,24 @@ settles_same false φ ok v w s A x = λ y. x (true_mono φ.edges (edges_long φ 
         let low = (ok.edge e i).low in
         not_T (true_in w (off e.variable)) (λ u. T_not (true_in v (off e.variable)) t ((true_off v e.variable low).1 (sym (s e i) ∙ (true_off w e.variable low).0 u)))
 
--- the edges of the table by number
-abbrev pub SameAt : List ℕ → List ℤ → List ℤ → ℕ → Type 0
-SameAt es v w j = value w (edge (edges_of es) j).variable ≡ value v (edge (edges_of es) j).variable
-
-pub same_all : (es : List ℕ) (v w : List ℤ) (k : ℕ) → length es ≤ k * 4 + 3 → ((j : ℕ) → j < k → SameAt es v w j) → SameEdges (edges_of es) v w
-same_all es v w k h s e m =
-    let q = at_mem (edges_of es) no_edge e m in
-    subst (λ (d : Edge). value w d.variable ≡ value v d.variable) (sym q.2) (s q.0 (omega (arith, q.1, edges_most es)))
-
 -- a copy has the same values
-pub same_copy : (es : List ℕ) (v r w : List ℤ) → Placed (edges_of es) (length v) → BeginsWith r v → SameEdges (edges_of es) r w → SameEdges (edges_of es) v w
+pub same_copy : (es : List struct-of-edge.Edge) (v r w : List ℤ) → Placed (edges_of es) (length v) → BeginsWith r v → SameEdges (edges_of es) r w → SameEdges (edges_of es) v w
 same_copy es v r w p b s e m =
     let q = p e m in
     s e m ∙ value_at_lem r e.variable (e.variable - 1) q.0 refl ∙ b (e.variable - 1) (omega (arith, q.0, q.1)) ∙ sym (value_at_lem v e.variable (e.variable - 1) q.0 refl)
 
 -- a round, from v by the atoms to u and by the clauses to w
 module _ (φ : PlanFile) (ok : Ranged φ) (v u : List ℤ) where
-  pub round_still : ClausesQuiet φ v → Looks φ (BothHeard φ v u) v u Still → Round φ v u Still
+  pub round_still : ClausesQuiet φ v → Looks φ (BothHeard φ v u) v u (Ok Still) → Round φ v u (Ok Still)
   round_still q x =
       let e = sym x.tells.0 in
       record { onward = x.onward; tells = (subst (ClausesQuiet φ) e q, subst (λ z. BothHeard φ z u) e x.tells.1) }
 
-  module _ (w : List ℤ) (x : Looks φ (BothHeard φ v u) v u Set) (o : Onward φ u w) (q : ClausesQuiet φ w) where
-    pub round_set : Round φ v w Set
+  module _ (w : List ℤ) (x : Looks φ (BothHeard φ v u) v u (Ok Set)) (o : Onward φ u w) (q : ClausesQuiet φ w) where
+    pub round_set : Round φ v w (Ok Set)
     round_set = record { onward = onward_then φ v u w x.onward o; tells = (omega (arith, x.tells.0, onward_fewer φ u w x.onward.shape o), q) }
 
-    pub round_same : SameEdges φ.edges v w → Round φ v w Still
+    pub round_same : SameEdges φ.edges v w → Round φ v w (Ok Still)
     round_same s = record {
       onward = onward_then φ v u w x.onward o;
       tells = (q, λ b A m y. o.above _ (x.tells.1 b A m (settles_same b φ ok v w s A y)));

@@ -3,12 +3,13 @@
 use mathlib.Core.Path.{◌≡◌, refl, sym, subst, ◌∙◌, ap}
 use mathlib.Core.Logic.{◌⊎◌, inl, inr}
 use mathlib.Core.List.{List, ◌∷◌}
-use Prim.Native.Nat.{ℕ, zero, suc, ◌+◌, ◌≤◌, ◌<◌}
+use Prim.Native.Nat.{ℕ, zero, suc, ◌+◌, ◌≤◌}
 use native.Mathlib.Omega.{arith}
 use lib.ListN.{length, get_or, set, take, replicate, length-replicate}
 use lib.Seq.{get_or-set_same, get_or-set_other, take-set-lt}
 use lib.IntN.{ℤ, pos, negsuc, nat_abs}
 use lib.Dec.{T}
+use Rattle.std.specs.Prelude.{Some, None}
 use Rattle.plan.specs.Meaning.{PlanFile, is_on, is_off, value, true_in, add, Full}
 use Rattle.plan.specs.Ranged.{max_variables}
 use Rattle.plan.specs.Search.{Assigned, opens, Closes, Lowest}
@@ -35,13 +36,13 @@ filled_closed φ a c from s h k f j b p e = go (s.each j (omega arith))
     go (inr (inl q)) = (zero_is _ e).1 (k.closed.closing.given (negsuc j) (subst (λ z. T (is_off z)) (sym q) tt))
     go (inr (inr q)) = f j b p q
 
--- the first open place
-module _ (a : List ℤ) (from r : ℕ) (f : Filled a from) (o : FirstOpen a from r) where
-  pub first_lowest : r < length a → Lowest a r
-  first_lowest h = record { inside = h; is_open = o.here h; below = λ j b. without_join (OpenAt a) f o.before j (omega arith) b }
+-- the first open place, and that there is none
+module _ (a : List ℤ) (from : ℕ) (f : Filled a from) where
+  pub first_lowest : (r : ℕ) → FirstOpen a from (Some r) → Lowest a r
+  first_lowest r o = record { inside = o.inside; is_open = o.here; below = λ j b. without_join (OpenAt a) f o.before j (omega arith) b }
 
-  pub first_full : (n : ℕ) → Assigned n a → r ≡ n → Full n a
-  first_full n s e = record { long = s.long; each = λ j h. known (s.each j h) (without_join (OpenAt a) f o.before j (omega arith) (omega arith)) }
+  pub first_full : (n : ℕ) → Assigned n a → FirstOpen a from None → Full n a
+  first_full n s o = record { long = s.long; each = λ j h. known (s.each j h) (without_join (OpenAt a) f o j (omega arith) (omega (arith, s.long))) }
     where
       known : {x : ℤ} → IsValue x → (x ≡ pos 0 → ⊥) → (x ≡ pos 1) ⊎ (x ≡ negsuc 0)
       known (inl q) z = inl q

@@ -5,6 +5,7 @@ use mathlib.Core.List.{List}
 use Prim.Native.Nat.{ℕ, suc, ◌≤◌}
 use native.Mathlib.Omega.{arith}
 use lib.IntN.{ℤ, nat_abs}
+use Rattle.std.specs.Prelude.{Some}
 use Rattle.plan.specs.Meaning.{PlanFile, true_in, add}
 use Rattle.plan.specs.Closing.{unit, all_false}
 use Rattle.plan.specs.Search.{Assigned, Closes, Lowest}
@@ -20,8 +21,8 @@ closed_quiet φ a c k C m = record {
 }
 
 -- a literal of the lowest open variable
-pub known_tried : (n : ℕ) (cs c : List ℤ) (i : ℕ) → Assigned n c → Lowest c i → AllQuiet (true_in c) (clauses_of cs) → (x : ℤ) → nat_abs x ≡ suc i → Known cs (add c x) x
-known_tried n cs c i s l q x e z =
+pub known_tried : (n : ℕ) (cs c : List ℤ) (i : ℕ) → Assigned n c → Lowest c i → AllQuiet (true_in c) (clauses_of cs) → (x : ℤ) → nat_abs x ≡ suc i → Known cs (add c x) (Some x)
+known_tried n cs c i s l q x e =
     let h : nat_abs x ≤ n = omega (arith, low_n n c i s l) in
     let t = tried_shape n c i s l x e in record {
       before = c;

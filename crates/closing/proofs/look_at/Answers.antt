@@ -2,39 +2,40 @@
 use mathlib.Core.Path.{◌≡◌, refl, ◌∙◌, subst}
 use mathlib.Core.Bool.{Bool, beq}
 use mathlib.Core.List.{List}
-use Prim.Native.Nat.{ℕ}
 use borrow.Author.Rules.{rules}
 use borrow.Author.Tests.{not-true, not-false}
 use lib.IntN.{ℤ}
 use mir.Syntax.{w16}
 use mir.Val.{SFits, of_z, to_z}
 use mir.Facts.{to_z-of_z}
+use Rattle.std.specs.Prelude.{Ok}
 use Rattle.plan.specs.Meaning.{Atom, PlanFile, literal_of, true_in}
 use Rattle.plan.specs.Closing.{Settles}
 use Rattle.plan.specs.Tables.{atom_of}
 use Rattle.walk.specs.Walking.{Settling}
+use Rattle.walk.specs.declared.distances.Distances.{Distances}
 use Rattle.walk.proofs.Truths.{so, not_so}
-use Rattle.closing.specs.Atoms.{Gets, Told}
+use Rattle.closing.specs.Atoms.{Outside, Gets, Told}
 use Rattle.closing.specs.declared.Step.TheVariants.{Still}
 use Rattle.closing.proofs.Looking.{literal_fits, verdict, looks_silent, looks_gets, looks_so}
 use Rattle.closing.proofs.look_at.Goals as goal
+use Rattle.closing.proofs.look_at.Goals.{then-is_true-holds-via-then-is_true-holds, then-is_true-holds-via-else-is_true-holds+then-has}
 
 -- one that is not heard
-silent : (Q : Type 0) (b : Bool) (A : Atom) (d : List ℕ) (v : List ℤ)
-    → ((φ : PlanFile) (v₀ : List ℤ) → Q → Settling φ.edges v₀ A b d → Settles φ (true_in v₀) A b → ⊥) → Told Q b A d v v Still
+silent : (Q : Type 0) (b : Bool) (A : Atom) (d : Distances) (v : List ℤ)
+    → ((φ : PlanFile) (v₀ : List ℤ) → Q → Settling φ.edges v₀ A b d → Settles φ (true_in v₀) A b → ⊥) → Told Q b A d v v (Ok Still)
 silent Q b A d v n φ ok s m v₀ sub k = looks_silent φ ok A m b v₀ v v s Q (λ q. n φ v₀ q (k q))
 
 pub returns-then-is_true-holds : goal.returns-then-is_true-holds
 returns-then-is_true-holds c =
     let a = c.args in
     let r = c.is_true.result in
-    silent _ a.holds (atom_of a.atom) a.distances.now a.values.now
-    (λ φ v₀ q k x. not_so {r = beq r a.holds} refl (not-true _ c.if-is_true-holds.true) ((verdict a.holds r φ v₀ (atom_of a.atom) a.distances.now c.is_true.ensures k).1 x))
-
-pub returns-then-has : goal.returns-then-has
-returns-then-has c =
-    let a = c.args in
-    silent _ a.holds (atom_of a.atom) a.distances.now a.values.now (λ φ v₀ q k x. q (so c.has.ensures c.if-has.true))
+    silent (Outside a.others a.at) a.holds (atom_of a.atom) a.distances.now a.values.now
+    (λ φ v₀ q k x.
+    let no : ⊥ = elim c.then-is_true-holds.branch [
+      | then-is_true-holds-via-then-is_true-holds w ↦ not_so {r = beq r a.holds} refl (not-true _ w.if-is_true-holds.true) ((verdict a.holds r φ v₀ (atom_of a.atom) a.distances.now c.is_true.ensures k).1 x)
+      | then-is_true-holds-via-else-is_true-holds+then-has w ↦ q (so w.has.ensures w.if-has.true)
+    ] in no)
 
 -- the literal
 literal_is : (g l : ℤ) → SFits w16 g → g ≡ l → to_z w16 (of_z w16 g) ≡ l

@@ -1,43 +1,28 @@
 -- `closing::look_at_atoms`: the atoms that count lengths behind those that count hops, where there are any.
-use mathlib.Core.Path.{sym, subst}
-use mathlib.Core.List.{List}
-use lib.IntN.{ℤ}
-use Rattle.unit.specs.Onward.{Onward}
-use Rattle.walk.proofs.Truths.{so}
-use Rattle.closing.specs.Atoms.{AllLooked}
-use Rattle.closing.proofs.Looking.{ready_on, looks_clash, looks_all, looks_none}
+use Rattle.std.specs.Prelude.{Ok, Err}
+use Rattle.std.proofs.lemmas.Result.{err_from_is_err_and}
+use Rattle.closing.proofs.Lending.{lent_tables}
+use Rattle.closing.proofs.Looking.{looks_clash, looks_all, looks_none}
 use Rattle.closing.proofs.look_at_atoms.Goals as goal
 
--- after those that count hops
-module _ (c : goal.Then-lengths-eq0) where
-  abbrev between : List ℤ
-  between = c.look_at_hops-step.new.values
+pub returns-in_err-first : goal.returns-in_err-first
+returns-in_err-first c = rw (err_from_is_err_and c.from_residual.result c.from_residual.ensures.1).1 (λ φ f. looks_clash (c.in_err-first.ensures φ f))
 
-  kept : Onward c.requires.ready.file c.args.values.now between
-  kept = (c.look_at_hops-step.ensures c.requires.ready.file c.requires.ready.has).onward
+pub returns-then-prepared-eq0 : goal.returns-then-prepared-eq0
+returns-then-prepared-eq0 c =
+    looks_none c.args.prepared.now.lengths c.args.values.now c.look_both.new.values (Ok c.in_ok-first.first) c.if-prepared-eq0.true c.in_ok-first.ensures
 
-pub returns-then-lengths-eq0 : goal.returns-then-lengths-eq0
-returns-then-lengths-eq0 c =
-    looks_none c.args.lengths c.args.values.now (between c) c.look_at_hops-step.result c.if-lengths-eq0.true c.look_at_hops-step.ensures
+pub look_both-requires-2 : goal.look_both-requires-2
+look_both-requires-2 c = (c.in_ok-first.ensures _ (lent_tables c.args.prepared.now.tables.lent c.requires)).onward.shape
 
-pub returns-then-is_clash : goal.returns-then-is_clash
-returns-then-is_clash c =
-    λ φ f. looks_clash φ c.args.values.now c.look_at_hops-step.new.values c.look_at_hops-step.result (so c.is_clash.ensures c.if-is_clash.true) (c.look_at_hops-step.ensures φ f)
-
-pub look_at_lengths-requires : goal.look_at_lengths-requires
-look_at_lengths-requires c =
-    let kept : Onward c.requires.ready.file c.args.values.now c.look_at_hops-step.new.values = (c.look_at_hops-step.ensures c.requires.ready.file c.requires.ready.has).onward in
-    record {
-      ready = ready_on c.requires.ready (kept).shape;
-      count_lengths = c.requires.count_lengths;
-    }
+pub returns-in_err-second : goal.returns-in_err-second
+returns-in_err-second c =
+    let a = c.args in
+    rw (err_from_is_err_and c.from_residual-in_err-second.result c.from_residual-in_err-second.ensures.1).1
+    (λ φ f. looks_clash
+    (looks_all a.prepared.now.lengths a.values.now c.look_both.new.values c.look_both-2.new.values c.in_ok-first.first (Err c.in_err-second.field-0.0) c.in_ok-first.ensures c.in_err-second.ensures φ f))
 
 pub returns : goal.returns
 returns c =
     let a = c.args in
-    let w = c.look_at_lengths.new.values in
-    subst (λ r. AllLooked a.edges.now a.atoms.now a.values.now w r) (sym c.and_then.ensures)
-    (looks_all a.lengths a.values.now c.look_at_hops-step.new.values w c.look_at_hops-step.result c.look_at_lengths.result c.look_at_hops-step.ensures c.look_at_lengths.ensures)
-
-pub look_at_hops-step-requires : goal.look_at_hops-step-requires
-look_at_hops-step-requires c = c.requires
+    rw c.or.ensures (looks_all a.prepared.now.lengths a.values.now c.look_both.new.values c.look_both-2.new.values c.in_ok-first.first (Ok c.in_ok-second.second) c.in_ok-first.ensures c.in_ok-second.ensures)

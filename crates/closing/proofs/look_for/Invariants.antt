@@ -1,14 +1,9 @@
-use Prim.Native.Nat.{◌-◌, ◌≤◌}
-use lib.Dec.{T}
 use Rattle.walk.specs.Walking.{Walked}
-use Rattle.closing.specs.Closed.{is_clash}
+use Rattle.std.specs.Prelude.{Ok}
 use Rattle.closing.specs.Atoms.{Outside}
 use Rattle.closing.proofs.Looking.{Sweeps}
 use Rattle.closing.proofs.look_for.Given as goal
 
-abbrev pub invariant-loop-at : goal.invariant-loop-at
-invariant-loop-at l =
-    (l.at ≤ l.count) × Walked l.sets l.source l.distances × (T (is_clash l.step) → ⊥) × Sweeps (Outside l.lengths) l.edges l.atoms l.holds l.initial.values l.values l.at l.step
-
-abbrev pub decreases-loop-at : goal.decreases-loop-at
-decreases-loop-at l = l.count - l.at
+abbrev pub invariant-loop-number : goal.invariant-loop-number
+invariant-loop-number l =
+    Walked l.sets l.source l.distances × Sweeps (Outside l.prepared.lengths) l.tables.edges.now l.tables.atoms.now l.holds l.initial.values l.values l.number (Ok l.step)

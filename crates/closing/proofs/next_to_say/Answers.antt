@@ -1,45 +1,35 @@
 -- `closing::next_to_say`: no atom that is passed by is due.
-use mathlib.Core.Path.{refl}
-use Prim.Native.Nat.{ℕ}
-use native.Mathlib.Omega.{arith}
-use borrow.Author.Rules.{rules}
-use Rattle.plan.proofs.Places.{without_none, without_more, first_found, first_end}
-use Rattle.walk.proofs.Truths.{so, not_so}
+use Rattle.std.proofs.Common.{◌↔◌, ◌≡◌, MatchOption, Option, Some, None, Bool, true, false, ℕ, ◌≤◌, ◌<◌, T, arith, rules, subst, sym}
+use Rattle.std.proofs.lemmas.Iterator.{serves_from_Range, first_from_Range}
+use borrow.Author.Tests.{tests}
+use Rattle.plan.specs.Places.{Without, Found}
+use Rattle.walk.proofs.Lending.{lent_few}
 use Rattle.closing.specs.Atoms.{Due}
+use Rattle.closing.proofs.Lending.{atom_ready}
 use Rattle.closing.proofs.next_to_say.Goals as goal
 
-pub loop-at-init : goal.loop-at-init
-loop-at-init c = let h = c.requires.k_le_count in (omega arith, omega arith, without_none _ _)
+pub find-requires-clause-callable : goal.find-requires-clause-callable
+find-requires-clause-callable c =
+    let lent = c.args.tables.now.lent in
+    serves_from_Range (λ x q k. search rules)
+    (λ x l h y e _ _ _ _ _ _ _ _ _ _. rw e (omega (arith, lent_few lent, lent.atoms), (h, atom_ready lent c.requires x h)))
 
-pub is_due-requires : goal.is_due-requires
-is_due-requires c =
-    let l = c.loop-at-test.true in
-    record {
-      at_bound = omega (arith, c.requires.count_le_max_atoms);
-      at_in_bounds = omega (arith, c.requires.atoms_ready.long);
-      atom_ready = c.requires.atoms_ready.each _ l;
-    }
+yes : {P : Type 0} {r : Bool} → T r ↔ P → r ≡ true → P
+yes i e = i.0 (subst (λ b. T b) (sym e) tt)
 
--- whether the atom at the place is due
-module _ (c : goal.Else-is_due) where
-  abbrev due : ℕ → Type 0
-  due = let a = c.args in Due a.others a.atoms.now a.holds a.values.now
+no : {P : Type 0} {r : Bool} → T r ↔ P → r ≡ false → P → ⊥
+no i e p = subst (λ b. T b) e (i.1 p)
 
-pub returns-then-is_due : goal.returns-then-is_due
-returns-then-is_due c =
-    let i = c.loop-at.invariant in
-    first_found (let a = c.args in Due a.others a.atoms.now a.holds a.values.now) i.0 i.1 i.2 (c.is_due.ensures.0 (so refl c.if-is_due.true))
-
-pub loop-at-preserved : goal.loop-at-preserved
-loop-at-preserved c =
-    let i = c.loop-at.invariant in
-    (omega (arith, i.0), omega (arith, c.loop-at-test.true), without_more (due c) i.2 (λ x. not_so refl c.if-is_due.false (c.is_due.ensures.1 x)))
+-- what `find` says
+first : (P : ℕ → Type 0) (n : ℕ) (r : Option ℕ)
+    → MatchOption r ((k : ℕ) → 0 ≤ k → k < n → P k → ⊥) (λ i. (0 ≤ i) × (i < n) × P i × ((k : ℕ) → 0 ≤ k → k < i → P k → ⊥))
+    → MatchOption r (Without P 0 n) (λ at. Found P 0 n at)
+first P n None h = h
+first P n (Some i) h = record { after = h.0; inside = h.1; before = h.3; here = h.2 }
 
 pub returns : goal.returns
-returns c = let i = c.loop-at.invariant in first_end _ i.0 (omega (arith, c.loop-at-test.false)) i.2
-
-pub overflow_add-at : goal.overflow_add-at
-overflow_add-at c = let h = c.loop-at-test.true in search rules
-
-pub loop-at-smaller : goal.loop-at-smaller
-loop-at-smaller c = omega (arith, c.loop-at-test.true)
+returns c =
+    let a = c.args in
+    let P : ℕ → Type 0 = Due a.others a.tables.now.atoms.now a.holds a.values.now in
+    first P _ c.find.result
+    (first_from_Range _ _ _ c.find.result P (λ k. P k → ⊥) c.find.ensures.ran (λ x q k. search (rules, tests, yes)) (λ x q k. (search rules, search (rules, tests, no))))

@@ -10,7 +10,7 @@ abbrev pub twice_open : ℕ → List ℤ → ℕ
 twice_open n l = opens (take n l) + opens (take n l)
 
 abbrev pub decreases-branch : goal.decreases-branch
-decreases-branch l = twice_open l.plan.variables l.a.values
+decreases-branch l = twice_open l.prepared.now.tables.plan.variables l.a.values
 
 abbrev pub decreases-settle : goal.decreases-settle
-decreases-settle l = twice_open l.plan.variables l.a.values + 1
+decreases-settle l = twice_open l.prepared.now.tables.plan.variables l.a.values + 1
