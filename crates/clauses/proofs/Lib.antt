@@ -1,5 +1,5 @@
-pub mod Numbers
-pub mod Tabled
+pub mod Appending
 pub mod Rows
 pub mod Stepping
 pub mod Whole
+pub mod Unwritten

@@ -3,7 +3,7 @@
 use mathlib.Core.Path.{◌≡◌, refl, sym, ◌∙◌, ap, ap₂, fun_ext}
 use mathlib.Core.List.{List, [], ◌∷◌, ◌++◌, append_assoc}
 use mathlib.Core.Bool.{Bool, true, false, cond}
-use Prim.Native.Nat.{ℕ, suc, ◌+◌, ◌<◌}
+use Prim.Native.Nat.{ℕ, suc, ◌+◌, ◌≤◌, ◌<◌}
 use native.Mathlib.Omega.{arith}
 use native.Mathlib.Nat.{mul-le-mul_right}
 use lib.IntN.{ℤ, pos}
@@ -12,7 +12,7 @@ use lib.ListN.{length, length-append}
 use Rattle.plan.specs.Meaning.{Edge, Atom, edge, on, off}
 use Rattle.plan.specs.Written.{each, flat, R, U, into, start_clauses, edge_clauses, node_clauses, level_clauses, end_clauses, block, levels, atom_block}
 use Rattle.encoding.proofs.Each.{flat_append, flat_each}
-use Rattle.clauses.specs.Rows.{Early, gives_row, and_row, edge_row, literal_row, into_row, alone_row, end_row, edges_row, literals_row, intos_row, node_row, nodes_row, level_row, first_at, level_from, levels_row, start_row, block_row, LowBlock}
+use Rattle.clauses.specs.Rows.{Early, gives_row, and_row, edge_row, literal_row, into_row, alone_row, end_row, edges_row, literals_row, intos_row, node_row, nodes_row, level_row, first_at, level_from, levels_row, start_row, block_row, Low, LowBlock}
 
 pub each_same : {A : Type 0} (n : ℕ) (f g : ℕ → List A) → ((k : ℕ) → f k ≡ g k) → each n f ≡ each n g
 each_same n f g e = ap (each n) (fun_ext e)
@@ -106,3 +106,13 @@ module _ (n : ℕ) (es : List Edge) (base : ℕ) where
 -- the numbers behind level i are low
 pub level_low : {es : List Edge} {n base top i : ℕ} → LowBlock es n base top → i < top → Early (first_at es n base i + (n + length es))
 level_low {es} {n} {base} {top} {i} low l = omega (arith, low.last, mul-le-mul_right {m = suc i} {n = top} (n + length es) l)
+
+-- and so are those of the level, and of the levels up to it
+pub level_all_low : {es : List Edge} {n base top i : ℕ} → LowBlock es n base top → i < top → Low es (level_from es n (first_at es n base i))
+level_all_low {es} {n} {base} {top} {i} low l =
+    let next = level_low low l in
+    record { few = low.few; nodes = omega (arith, next); edges = omega (arith, next); next = next }
+
+pub low_upto : {es : List Edge} {n base top i : ℕ} → LowBlock es n base top → i ≤ top → LowBlock es n base i
+low_upto {es} {n} {base} {top} {i} low l =
+    record { few = low.few; nodes = low.nodes; last = omega (arith, low.last, mul-le-mul_right {m = i} {n = top} (n + length es) l) }

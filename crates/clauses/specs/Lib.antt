@@ -1,2 +1,5 @@
+pub mod Appending
+pub mod LowOnce
 pub mod Rows
+pub mod Shapes
 pub mod Writing

@@ -1,14 +1,13 @@
 -- What writing the clauses answers, and what it leaves in the buffer. Document 01, "Writing out clauses" and refusal 12.
 -- Assumes nothing.
-use Rattle.std.specs.Prelude.{◌≡◌, List, ℕ, ◌+◌, ◌≤◌, ◌<◌, ℤ, length}
+use Rattle.std.specs.Prelude.{◌≡◌, List, ℕ, ◌+◌, ◌≤◌, ◌<◌, ℤ, length, Result, Ok, Err}
 use Rattle.plan.specs.Buffers.{Kept, Wrote}
 use Rattle.plan.specs.Meaning.{Edge, Atom, PlanFile}
 use Rattle.plan.specs.Ranged.{max_nodes, max_variables, max_edges, max_atoms, max_clauses, max_literals}
-use Rattle.plan.specs.Written.{flat, block_variables, block_clauses, block_numbers, written, last_variable}
+use Rattle.plan.specs.Written.{flat, block_variables, block_clauses, block_numbers, blocks, written, last_variable}
 use Rattle.encoding.specs.Counts.{total, most_variables, most_clauses, most_numbers}
 use Rattle.clauses.specs.declared.Counts.{Counts}
-use Rattle.clauses.specs.declared.Writing.{Writing}
-use Rattle.clauses.specs.declared.Writing.TheVariants.{Written, Short}
+use Rattle.plan.specs.declared.refusal.Short.{Short}
 
 -- "with the counts of variables, clauses and numbers"
 pub record Counting (φ : PlanFile) (counts : Counts) : Type 0 where
@@ -28,9 +27,13 @@ pub record TooShort (φ : PlanFile) (before after : List ℤ) (needed : ℕ) : T
   pub room : length before < needed
   pub kept : Kept before after
 
-abbrev pub Writes : PlanFile → List ℤ → List ℤ → Writing → Type 0
-Writes φ before after (Written counts) = WrittenOut φ before after counts
-Writes φ before after (Short needed) = TooShort φ before after needed
+abbrev pub Writes : PlanFile → List ℤ → List ℤ → Result Counts Short → Type 0
+Writes φ before after (Ok counts) = WrittenOut φ before after counts
+Writes φ before after (Err short) = TooShort φ before after short.0
+
+-- "Then a block for each atom, in order.": the numbers behind the file's own
+abbrev pub file_blocks : PlanFile → List ℤ
+file_blocks φ = flat (blocks φ.nodes φ.edges φ.variables φ.atoms)
 
 -- The counts with the blocks of the atoms As added.
 pub record Added (n m : ℕ) (As : List Atom) (from to : Counts) : Type 0 where

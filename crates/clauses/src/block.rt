@@ -1,12 +1,16 @@
 // One block: its start, its levels and its end.
-ghost use Rattle.std.specs.Prelude.{◌≤◌};
+ghost use Rattle.std.specs.Prelude.{◌≡◌, ◌≤◌, ◌<◌};
 ghost use Rattle.plan.specs.Ranged.{max_nodes};
 ghost use Rattle.plan.specs.Tables.{edges_of};
 ghost use Rattle.plan.specs.Front.{Room, Put};
-ghost use Rattle.clauses.specs.Rows.{Fits, Early, alone_row, end_row, edges_row, nodes_row, level_row, levels_row, start_row, block_row, Low, LowBlock};
+ghost use Rattle.clauses.specs.Appending.{RoomFor, Appends};
+ghost use Rattle.clauses.specs.Rows.{Fits, Early, alone_row, end_row, edges_row, nodes_row, level_row, start_row, Low};
+ghost use Rattle.clauses.specs.Shapes.{first_by, level_by, levels_by, block_by};
 
-use crate::parts::{edge_count, put_edge, put_gives, put_node, put_off, put_on, put_zero};
-use plan::{Atom, wide};
+use crate::parts::{put_edge, put_node};
+use crate::shape::Shape;
+use crate::writer::Writer;
+use plan::{Atom, Edge};
 
 // The first numbers of a level of a block: those of its R, of its T, and of the next level's R.
 #[derive(Clone, Copy)]
@@ -16,146 +20,127 @@ pub struct Level {
     pub next: usize,
 }
 
-// The clauses of the edges of one level.
-fn put_edges(out: &mut [i32], at: usize, edges: &[u16], level: Level) -> usize
-    requires room { Room (edges_row (edges_of edges.now) level) at out.old }
-    requires low { Low (edges_of edges.now) level }
-    ensures { Put (edges_row (edges_of edges.now) level) at out.old out.new result }
-{
-    let count = edge_count(edges);
-    let mut end = at;
-    let mut k = 0;
-    while k < count {
-        end = put_edge(out, end, edges, k, level.edges + k, level.nodes);
-        k += 1;
+impl Shape<'_> {
+    // The first number of level i.
+    pub fn first(&self, i: usize) -> usize
+        requires { i ≤ self.now.top }
+        ensures { result ≡ first_by self.now i }
+    {
+        self.base + 1 + i * (self.nodes + self.edges.len())
     }
-    end
+
+    // The numbers of level i.
+    pub fn level(&self, i: usize) -> Level
+        requires { i < self.now.top }
+        ensures { result ≡ level_by self.now i }
+    {
+        let first = self.first(i);
+        Level {
+            nodes: first,
+            edges: first + self.nodes,
+            next: first + (self.nodes + self.edges.len()),
+        }
+    }
+}
+
+// The clauses of the edges of one level.
+fn put_edges(out: &mut Writer, edges: &[Edge], level: Level)
+    requires room { RoomFor (edges_row (edges_of edges.now) level) out.old }
+    requires low { Low (edges_of edges.now) level }
+    ensures { Appends (edges_row (edges_of edges.now) level) out.old out.new }
+{
+    for (k, edge) in edges.iter().enumerate() {
+        put_edge(out, *edge, level.edges + k, level.nodes);
+    }
 }
 
 // The clauses of the nodes of one level.
-fn put_nodes(out: &mut [i32], at: usize, edges: &[u16], nodes: usize, level: Level) -> usize
-    requires room { Room (nodes_row (edges_of edges.now) nodes level) at out.old }
+fn put_nodes(out: &mut Writer, edges: &[Edge], nodes: usize, level: Level)
+    requires room { RoomFor (nodes_row (edges_of edges.now) nodes level) out.old }
     requires low { Low (edges_of edges.now) level }
     requires nodes_le_max_nodes { nodes ≤ max_nodes }
-    ensures { Put (nodes_row (edges_of edges.now) nodes level) at out.old out.new result }
+    ensures { Appends (nodes_row (edges_of edges.now) nodes level) out.old out.new }
 {
-    let mut end = at;
-    let mut w = 0;
-    while w < nodes {
-        end = put_node(
-            out,
-            end,
-            edges,
-            level.edges,
-            level.nodes + w,
-            level.next + w,
-            w,
-        );
-        w += 1;
+    for w in 0..nodes {
+        put_node(out, edges, level.edges, level.nodes + w, level.next + w, w);
     }
-    end
 }
 
-// The clauses of one level.
-pub fn put_level(out: &mut [i32], at: usize, edges: &[u16], nodes: usize, level: Level) -> usize
-    requires room { Room (level_row (edges_of edges.now) nodes level) at out.old }
+// The clauses of one level. It asks nothing of any other: a `Shape`, which has its base and top, would ask more of callers.
+pub fn put_level(out: &mut Writer, edges: &[Edge], nodes: usize, level: Level)
+    requires room { RoomFor (level_row (edges_of edges.now) nodes level) out.old }
     requires low { Low (edges_of edges.now) level }
     requires nodes_le_max_nodes { nodes ≤ max_nodes }
-    ensures { Put (level_row (edges_of edges.now) nodes level) at out.old out.new result }
+    ensures { Appends (level_row (edges_of edges.now) nodes level) out.old out.new }
 {
-    let at = put_edges(out, at, edges, level);
-    put_nodes(out, at, edges, nodes, level)
+    put_edges(out, edges, level);
+    put_nodes(out, edges, nodes, level);
 }
 
-// The clauses of `top` levels of a block behind `base`.
-fn put_levels(
-    out: &mut [i32],
-    at: usize,
-    edges: &[u16],
-    nodes: usize,
-    base: usize,
-    top: usize,
-) -> usize
-    requires room { Room (levels_row (edges_of edges.now) nodes base top) at out.old }
-    requires low_block { LowBlock (edges_of edges.now) nodes base top }
-    ensures { Put (levels_row (edges_of edges.now) nodes base top) at out.old out.new result }
+// The clauses of the levels of a block.
+fn put_levels(out: &mut Writer, shape: &Shape)
+    requires { RoomFor (levels_by shape.now) out.old }
+    ensures { Appends (levels_by shape.now) out.old out.new }
 {
-    let step = nodes + edge_count(edges);
-    let mut first = base + 1;
-    let mut end = at;
-    let mut i = 0;
-    while i < top {
-        let level = Level {
-            nodes: first,
-            edges: first + nodes,
-            next: first + step,
-        };
-        end = put_level(out, end, edges, nodes, level);
-        first += step;
-        i += 1;
+    for i in 0..shape.top {
+        let level = shape.level(i);
+        put_level(out, shape.edges, shape.nodes, level);
     }
-    end
 }
 
 // The variable alone, or its opposite where w is not the source.
-fn put_alone(out: &mut [i32], at: usize, w: usize, source: usize, variable: usize) -> usize
-    requires room { Room (alone_row w source variable) at out.old }
+#[tactic(auto, unfolding(crate::specs::Rows::alone_row))]
+fn put_alone(out: &mut Writer, w: usize, source: usize, variable: usize)
+    requires room { RoomFor (alone_row w source variable) out.old }
     requires fits { Fits variable }
-    ensures { Put (alone_row w source variable) at out.old out.new result }
+    ensures { Appends (alone_row w source variable) out.old out.new }
 {
     if w == source {
-        let at = put_on(out, at, variable);
-        return put_zero(out, at);
+        out.on(variable);
+    } else {
+        out.off(variable);
     }
-    let at = put_off(out, at, variable);
-    put_zero(out, at)
+    out.zero();
 }
 
 // The clauses of level 0, whose R start at `first`.
-pub fn put_start(out: &mut [i32], at: usize, nodes: usize, source: usize, first: usize) -> usize
-    requires room { Room (start_row nodes source first) at out.old }
+pub fn put_start(out: &mut Writer, nodes: usize, source: usize, first: usize)
+    requires room { RoomFor (start_row nodes source first) out.old }
     requires nodes_le_max_nodes { (nodes ≤ max_nodes) × Early first }
-    ensures { Put (start_row nodes source first) at out.old out.new result }
+    ensures { Appends (start_row nodes source first) out.old out.new }
 {
-    let mut end = at;
-    let mut w = 0;
-    while w < nodes {
-        end = put_alone(out, end, w, source, first + w);
-        w += 1;
+    for w in 0..nodes {
+        put_alone(out, w, source, first + w);
     }
-    end
 }
 
 // The two clauses that make the atom's variable a that of the last level, v.
-pub fn put_end(out: &mut [i32], at: usize, a: usize, v: usize) -> usize
-    requires room { Room (end_row a v) at out.old }
+#[tactic(auto, unfolding(crate::specs::Rows::end_row, crate::specs::Rows::gives_row))]
+pub fn put_end(out: &mut Writer, a: usize, v: usize)
+    requires room { RoomFor (end_row a v) out.old }
     requires fits { Fits a × Fits v }
-    ensures { Put (end_row a v) at out.old out.new result }
+    ensures { Appends (end_row a v) out.old out.new }
 {
-    let at = put_gives(out, at, a, v);
-    let at = put_on(out, at, a);
-    let at = put_off(out, at, v);
-    put_zero(out, at)
+    out.gives(a, v);
+    out.on(a);
+    out.off(v);
+    out.zero();
 }
 
-// One block behind `base`, of `top` levels.
-pub fn put_block(
-    out: &mut [i32],
-    edges: &[u16],
-    nodes: usize,
-    base: usize,
-    top: usize,
-    atom: Atom,
-) -> usize
-    requires room { Room (block_row nodes (edges_of edges.now) base top atom.from atom.to atom.variable) 0 out.old }
-    requires low_block { LowBlock (edges_of edges.now) nodes base top }
-    ensures { Put (block_row nodes (edges_of edges.now) base top atom.from atom.to atom.variable) 0 out.old out.new result }
+// One block, at the front of `out`; hands back the place behind it.
+pub fn put_block(out: &mut [i32], shape: &Shape, atom: Atom) -> usize
+    requires { Room (block_by shape.now atom) 0 out.old }
+    ensures { Put (block_by shape.now atom) 0 out.old out.new result }
 {
-    let source = wide(atom.from);
-    let target = wide(atom.to);
-    let variable = wide(atom.variable);
-    let step = nodes + edge_count(edges);
-    let at = put_start(out, 0, nodes, source, base + 1);
-    let at = put_levels(out, at, edges, nodes, base, top);
-    put_end(out, at, variable, base + 1 + top * step + target)
+    let target = shape.first(shape.top) + usize::from(atom.to);
+    let mut writer = Writer { out, at: 0 };
+    put_start(
+        &mut writer,
+        shape.nodes,
+        usize::from(atom.from),
+        shape.base + 1,
+    );
+    put_levels(&mut writer, shape);
+    put_end(&mut writer, usize::from(atom.variable), target);
+    writer.at
 }

@@ -139,10 +139,6 @@ abbrev pub sign : ℤ → List ℕ
 sign (pos n) = []
 sign (negsuc n) = minus ∷ []
 
-pub sign_length : (l : ℤ) → length (sign l) ≤ 1
-sign_length (pos n) = omega arith
-sign_length (negsuc n) = omega arith
-
 pub sign_below : (l : ℤ) → lt_z l (pos 0) ≡ true → sign l ≡ minus ∷ []
 sign_below (pos n) e = let h : n < 0 = ltb-true n 0 e in absurd (omega arith)
 sign_below (negsuc n) e = refl

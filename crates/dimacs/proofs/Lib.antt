@@ -1,9 +1,7 @@
 pub mod Spans
-pub mod ProblemLine
 pub mod Values
 pub mod Comparing
 pub mod Tallies
-pub mod Turns
 pub mod Scans
 pub mod Verdicts
 pub mod Ruled
@@ -12,6 +10,7 @@ pub mod RecordSizes
 pub mod Recording
 pub mod Digits
 pub mod Spelling
+pub mod Printers
 pub mod ReadNumbers
 pub mod ReadWords
 pub mod ReadBack

@@ -10,6 +10,7 @@ use native.Mathlib.Omega.{arith}
 use borrow.Author.Tests.{ltb-true, lt-ltb, le-ltb}
 use lib.IntN.{ℤ}
 use lib.ListN.{length}
+use Rattle.std.specs.Prelude.{None, Ok, Err}
 use Rattle.plan.specs.Ranged.{literals}
 use Rattle.plan.specs.Written.{flat}
 use Rattle.plan.proofs.Laying.{laid_none, laid_as}
@@ -20,11 +21,8 @@ use Rattle.dimacs.specs.Reading as reading
 use Rattle.dimacs.specs.Reading.{Rule, Text, bad, good, nothing, begun, check, taken, turn, onward, clauses, literals_of, first_over}
 use Rattle.dimacs.specs.Scanning.{left, part, Ahead, Tallied, TurnIs, ScanIs}
 use Rattle.dimacs.specs.declared.words.Word.{Word}
-use Rattle.dimacs.specs.declared.rules.Tally.{Tally}
-use Rattle.dimacs.specs.declared.rules.Turn.{Turn}
-use Rattle.dimacs.specs.declared.rules.Turn.TheVariants as turned
-use Rattle.dimacs.specs.declared.rules.Scanned.{Scanned}
-use Rattle.dimacs.specs.declared.rules.Scanned.TheVariants as scan
+use Rattle.dimacs.specs.declared.head.BadText.{BadText}
+use Rattle.dimacs.specs.declared.clauses.Tally.{Tally}
 
 -- At an offset: what the whole text reads as is what these clauses and the words that are left lead to.
 pub record Underway (a b : ℕ) (text : List ℕ) (p v c : ℕ) (x : Text) (before after : List ℤ) (t : Tally) (at : ℕ) : Type 0 where
@@ -35,7 +33,7 @@ pub record Underway (a b : ℕ) (text : List ℕ) (p v c : ℕ) (x : Text) (befo
 
 -- nothing yet
 pub begins : (a b : ℕ) (text : List ℕ) (p v c : ℕ) (table : List ℤ) (at : ℕ)
-    → Underway a b text p v c (clauses (length text) p v c [] nothing (left (between false) text at)) table table (record { clauses = 0; literals = 0; fitting = 0; past = 0; start = 0; unended = 0 }) at
+    → Underway a b text p v c (clauses (length text) p v c [] nothing (left (between false) text at)) table table (record { clauses = 0; literals = 0; past = None; start = 0; unended = 0 }) at
 unfolding literals literals_of first_over flat
 begins a b text p v c table at = record {
   done = [];
@@ -45,7 +43,6 @@ begins a b text p v c table at = record {
     literals = refl;
     begins = λ x. absurd (omega (arith, ltb-true 0 0 x));
     unended = refl;
-    fitting = omega arith;
     limit = refl;
     stands = laid_none 0 table;
   };
@@ -59,7 +56,6 @@ none_begun {done = done} {r = r} h l = record {
   literals = h.literals;
   begins = λ x. absurd (omega (arith, ltb-true 0 0 x));
   unended = omega arith;
-  fitting = h.fitting;
   limit = h.limit;
   stands = laid_as (ap (λ y. flat (literals_of done) ++ y) (go r.literals (omega (arith, h.unended)))) h.stands;
 }
@@ -69,12 +65,12 @@ none_begun {done = done} {r = r} h l = record {
     go (x ∷ ls) l = absurd (omega arith)
 
 -- the code's turn, and the definition's
-module _ (a b : ℕ) (before after : List ℤ) where
-  is_wrong : (y : reading.Turn) → TurnIs a b before after y turned.Wrong → y ≡ reading.wrong
-  is_wrong reading.wrong h = refl
+module _ (a b at : ℕ) (before after : List ℤ) where
+  is_wrong : {e : BadText} (y : reading.Turn) → TurnIs a b at before after y (Err e) → (y ≡ reading.wrong) × (e.at ≡ at)
+  is_wrong reading.wrong h = (refl, h)
   is_wrong (reading.goes done r) h = absurd h
 
-  is_on_lem : {t : Tally} (y : reading.Turn) → TurnIs a b before after y (turned.Goes t) → (done : List Rule) × (r : Rule) × (y ≡ reading.goes done r) × Tallied a b done r before after t
+  is_on_lem : {t : Tally} (y : reading.Turn) → TurnIs a b at before after y (Ok t) → (done : List Rule) × (r : Rule) × (y ≡ reading.goes done r) × Tallied a b done r before after t
   is_on_lem reading.wrong h = absurd h
   is_on_lem (reading.goes done r) h = (done, r, refl, h)
 
@@ -85,10 +81,10 @@ module _ {a b : ℕ} {text : List ℕ} {p v c : ℕ} {x : Text} {before after : 
     unfolding clauses
     at_end = u.same ∙ ap (clauses (length text) p v c u.done u.rule) e
 
-    pub ends_bad : 0 < t.unended → ScanIs a b before after x (scan.Bad (length text))
+    pub ends_bad : 0 < t.unended → ScanIs a b before after x (Err (record { at = length text }))
     ends_bad l = rw (at_end, lt-ltb 0 (length u.rule.literals) (omega (arith, u.tallied.unended))) refl
 
-    pub ends_good : t.unended ≤ 0 → ScanIs a b before after x (scan.Good t)
+    pub ends_good : t.unended ≤ 0 → ScanIs a b before after x (Ok t)
     ends_good l = rw (at_end, le-ltb 0 (length u.rule.literals) (omega (arith, u.tallied.unended))) (none_begun u.tallied l)
 
   -- a word, and its turn
@@ -103,12 +99,14 @@ module _ {a b : ℕ} {text : List ℕ} {p v c : ℕ} {x : Text} {before after : 
     unfolding clauses turn
     onto = u.same ∙ ap (clauses (length text) p v c u.done u.rule) h.same ∙ ap (λ z. onward w.start go_on (taken v u.done u.rule w.start z)) e
 
-    module _ (new : List ℤ) {y : Turn} (k : (done : List Rule) (r : Rule) → Tallied a b done r before after t → TurnIs a b before new (taken v done r w.start z) y) where
-      pub turns_bad : y ≡ turned.Wrong → ScanIs a b before new x (scan.Bad w.start)
-      turns_bad q = rw (onto, is_wrong a b before new the_turn (rw q at (k u.done u.rule u.tallied))) refl
+    module _ (new : List ℤ) where
+      pub turns_bad : (y : BadText) → ((done : List Rule) (r : Rule) → Tallied a b done r before after t → TurnIs a b w.start before new (taken v done r w.start z) (Err y))
+          → ScanIs a b before new x (Err y)
+      turns_bad y k = let q = is_wrong a b w.start before new the_turn (k u.done u.rule u.tallied) in rw (onto, q.0) q.1
 
-      pub turns_on : {s : Tally} → y ≡ turned.Goes s → Underway a b text p v c x before new s w.end
-      turns_on {s} q = on (is_on_lem a b before new the_turn (rw q at (k u.done u.rule u.tallied)))
+      pub turns_on : (s : Tally) → ((done : List Rule) (r : Rule) → Tallied a b done r before after t → TurnIs a b w.start before new (taken v done r w.start z) (Ok s))
+          → Underway a b text p v c x before new s w.end
+      turns_on s k = on (is_on_lem a b w.start before new the_turn (k u.done u.rule u.tallied))
         where
           on : (done : List Rule) × (r : Rule) × (the_turn ≡ reading.goes done r) × Tallied a b done r before new s → Underway a b text p v c x before new s w.end
           on (done, r, g, l) = record { done = done; rule = r; tallied = l; same = onto ∙ ap (onward w.start go_on) g }
@@ -134,14 +132,10 @@ module _ (end p v c : ℕ) where
 
 -- the code's scan says which
 module _ (a b : ℕ) (before after : List ℤ) where
-  pub scan_bad : (x : Text) {y : Scanned} {at : ℕ} → y ≡ scan.Bad at → ScanIs a b before after x y → x ≡ bad at
-  scan_bad x {at = at} e h = go x (rw e at h)
-    where
-      go : (x : Text) → ScanIs a b before after x (scan.Bad at) → x ≡ bad at
-      go (bad n) h = ap bad (sym h)
-      go (good p v c rs) h = absurd h
+  pub scan_bad : (x : Text) (e : BadText) → ScanIs a b before after x (Err e) → x ≡ bad e.at
+  scan_bad (bad n) e h = ap bad (sym h)
+  scan_bad (good p v c rs) e h = absurd h
 
-  pub scan_good : {p v c : ℕ} {x : Text} {y : Scanned} {t : Tally} → OneOf p v c x → y ≡ scan.Good t → ScanIs a b before after x y
-      → (rs : List Rule) × (x ≡ good p v c rs) × Tallied a b rs nothing before after t
-  scan_good (inl (at, q)) e h = absurd (rw (q, e) at h)
-  scan_good (inr (rs, q)) e h = (rs, q, rw (q, e) at h)
+  pub scan_good : {p v c : ℕ} {x : Text} {t : Tally} → OneOf p v c x → ScanIs a b before after x (Ok t) → (rs : List Rule) × (x ≡ good p v c rs) × Tallied a b rs nothing before after t
+  scan_good (inl (at, q)) h = absurd (rw q at h)
+  scan_good (inr (rs, q)) h = (rs, q, rw q at h)

@@ -3,7 +3,6 @@
 use mathlib.Core.Path.{◌≡◌, refl, sym, ap, ◌∙◌}
 use mathlib.Core.List.{List, [], ◌∷◌, ◌++◌, append_assoc}
 use Prim.Native.Nat.{ℕ, suc, ◌+◌, ◌-◌, ◌/◌, ◌%◌, ◌≤◌, ◌<◌}
-use native.Mathlib.Nat.{add-zero}
 use native.Mathlib.Omega.{arith}
 use lib.ListN.{length, take, drop, set, length-append, length-take, length-set}
 use lib.Seq.{drop_at, set_split, take-set-le}
@@ -36,28 +35,36 @@ module _ {A : Type 0} where
             ∙ ap (λ k. (take at old ++ (ws ++ (x ∷ []))) ++ drop k old) (sym whole);
       }
 
--- Of a number's digits `left` are to be written, those of `rest`: who writes them writes the whole number.
-pub record Spells (number at digits : ℕ) (old now : List ℕ) (rest left : ℕ) : Type 0 where
-  pub within : left ≤ digits
+-- Of a number's digits those before a place are to be written, those of `rest`: who writes them writes the whole number.
+pub record Spells (number at digits : ℕ) (old now : List ℕ) (rest place : ℕ) : Type 0 where
+  pub from : at ≤ place
+  pub within : place ≤ at + digits
   pub same : length now ≡ length old
-  pub whole : (new : List ℕ) → Put (exactly left rest) at now new (at + left) → Put (numeral number) at old new (at + digits)
+  pub whole : (new : List ℕ) → Put (exactly (place - at) rest) at now new place → Put (numeral number) at old new (at + digits)
 
-pub spells_start : (number at digits : ℕ) (old : List ℕ) → digits ≡ length (numeral number) → Spells number at digits old old number digits
+pub spells_start : (number at digits : ℕ) (old : List ℕ) → digits ≡ length (numeral number) → Spells number at digits old old number (at + digits)
 spells_start number at digits old e =
-    record { within = omega arith; same = refl; whole = λ new p. put_as (ap (λ k. exactly k number) e ∙ sym (digits_exact 10 number)) p }
+    let all : at + digits - at ≡ length (numeral number) = omega arith in
+    record { from = omega arith; within = omega arith; same = refl; whole = λ new p. put_as (ap (λ k. exactly k number) all ∙ sym (digits_exact 10 number)) p }
 
-module _ {number at digits : ℕ} {old now : List ℕ} {rest left : ℕ} (room : at + digits ≤ length old) (s : Spells number at digits old now rest left) where
+module _ {number at digits : ℕ} {old now : List ℕ} {rest place : ℕ} (room : at + digits ≤ length old) (s : Spells number at digits old now rest place) where
   abbrev digit : ℕ
   digit = zero_digit + rest % 10
 
-  pub spells_next : 1 ≤ left → Spells number at digits old (set now (at + (left - 1)) digit) (rest / 10) (left - 1)
+  pub spells_next : at < place → Spells number at digits old (set now (place - 1) digit) (rest / 10) (place - 1)
   spells_next l =
+      let one_less : place - at - 1 ≡ place - 1 - at = omega arith in
       record {
+        from = omega arith;
         within = omega (arith, s.within);
-        same = length-set now (at + (left - 1)) digit ∙ s.same;
-        whole = λ new p. s.whole new (put_as (sym (exactly_last left rest l)) (put_before digit (omega arith) (omega (arith, s.within, s.same)) p));
+        same = length-set now (place - 1) digit ∙ s.same;
+        whole = λ new p.
+            s.whole new (put_as (sym (exactly_last (place - at) rest (omega arith) ∙ ap (λ k. exactly k (rest / 10) ++ (digit ∷ [])) one_less)) (put_before digit (omega arith) (omega (arith, s.within, s.same)) p));
       }
 
-  pub spells_all : left ≡ 0 → Put (numeral number) at old now (at + digits)
+  pub spells_all : place ≤ at → Put (numeral number) at old now (at + digits)
   unfolding exactly
-  spells_all e = s.whole now (rw (e, add-zero at) (put_none at now (omega (arith, s.same))))
+  spells_all l =
+      let e : place ≡ at = omega (arith, s.from) in
+      let none : place - at ≡ 0 = omega arith in
+      s.whole now (rw (none, e) (put_none at now (omega (arith, s.same))))

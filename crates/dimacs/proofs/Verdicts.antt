@@ -4,10 +4,10 @@ use mathlib.Core.Path.{◌≡◌, refl, sym, ap, ◌∙◌}
 use mathlib.Core.Bool.{Bool, true, false, cond, ◌&&◌}
 use mathlib.Core.List.{List, [], ◌∷◌, ◌++◌, append-nil}
 use mathlib.Core.Option.{none, some}
-use Prim.Native.Nat.{ℕ, suc, ◌+◌, ◌-◌, ◌≤◌, ◌<◌}
+use Prim.Native.Nat.{ℕ, suc, ◌+◌, ◌-◌, ◌≤◌}
 use native.Mathlib.Omega.{arith}
-use borrow.Author.Tests.{ltb-true, leb-true, lt-ltb, le-ltb, le-leb, lt-leb, eq-eqb, ne_eqb}
-use lib.Dec.{ltb, leb, eqb}
+use borrow.Author.Tests.{ltb-true, leb-true, le-leb, eq-eqb}
+use lib.Dec.{ltb, leb}
 use lib.IntN.{ℤ}
 use lib.ListN.{length, take, drop, length-take}
 use lib.Seq.{take_at, take-append-le}
@@ -15,15 +15,12 @@ use Rattle.plan.specs.ClauseTable.{max_table}
 use Rattle.plan.specs.Ranged.{max_clauses, max_literals, literals}
 use Rattle.plan.specs.Written.{flat}
 use Rattle.plan.proofs.ClauseTable.{flat_length}
-use Rattle.dimacs.specs.Words.{between}
-use Rattle.dimacs.specs.Reading.{Rule, Text, bad, good, nothing, clauses, literals_of, first_over, Rules, refused, rules, rules_of}
-use Rattle.dimacs.specs.Scanning.{left, HeadingIs, Tallied, Read, RulesAre}
-use Rattle.dimacs.specs.declared.head.Head.{Head}
-use Rattle.dimacs.specs.declared.head.Heading.{Heading}
-use Rattle.dimacs.specs.declared.head.Heading.TheVariants as heading
-use Rattle.dimacs.specs.declared.rules.Tally.{Tally}
-use Rattle.dimacs.specs.declared.RulesAnswer.{RulesAnswer}
-use Rattle.dimacs.specs.declared.RulesAnswer.TheVariants as answer
+use Rattle.dimacs.specs.Reading.{Rule, good, nothing, literals_of, first_over, Rules, refused, rules, rules_of}
+use Rattle.dimacs.specs.Scanning.{as_option, Tallied, Read, RulesAre}
+use Rattle.std.specs.Prelude.{None, Result, Ok, Err}
+use Rattle.plan.specs.declared.refusal.Refusal.{Refusal}
+use Rattle.dimacs.specs.declared.clauses.Tally.{Tally}
+use Rattle.dimacs.specs.declared.Rules as struct-of-rules
 
 -- as many lists of literals as clauses
 pub literals_of_length : (rs : List Rule) → length (literals_of rs) ≡ length rs
@@ -48,9 +45,9 @@ within a b (q ∷ rs) e = go (ltb a max_clauses) (leb (b + length q.literals) ma
     go false y u v e f = let z : ◌≡◌ {A = ℕ} 0 1 = cc in absurd (omega arith)
 
 module _ {clauses literals : ℕ} {rs : List Rule} {before after : List ℤ} {t : Tally} (h : Tallied clauses literals rs nothing before after t) where
-  pub read_is : t.clauses ≤ t.fitting → length before ≡ max_table → Read rs after t.clauses t.literals
+  pub read_is : t.past ≡ None → length before ≡ max_table → Read rs after t.clauses t.literals
   read_is e l =
-      let w = within clauses literals rs (sym h.limit ∙ rw (le-ltb t.fitting t.clauses e)) in
+      let w = within clauses literals rs (sym h.limit ∙ ap as_option e) in
       record {
         clauses = h.clauses;
         literals = h.literals;
@@ -59,40 +56,18 @@ module _ {clauses literals : ℕ} {rs : List Rule} {before after : List ℤ} {t 
             ∙ append-nil (flat (literals_of rs));
       }
 
-  module _ (variables at v n : ℕ) where
-    pub wrong_count : (t.clauses ≡ n → ⊥) → rules_of variables clauses literals (good at v n rs) ≡ refused 21 at
-    wrong_count c = rw (ne_eqb (length rs) n (λ e. c (h.clauses ∙ e)))
-
-    module _ (c : t.clauses ≡ n) where
-      counted : eqb (length rs) n ≡ true
-      counted = eq-eqb (length rs) n (sym h.clauses ∙ c)
-
-      pub many_variables : variables < v → rules_of variables clauses literals (good at v n rs) ≡ refused 22 at
-      many_variables l = rw (counted, lt-leb v variables l)
-
-      pub past_limit : v ≤ variables → t.fitting < t.clauses → rules_of variables clauses literals (good at v n rs) ≡ refused 7 t.past
-      past_limit l e = rw (counted, le-leb v variables l, ← h.limit, lt-ltb t.fitting t.clauses e)
-
-      pub within_limit : v ≤ variables → t.clauses ≤ t.fitting → rules_of variables clauses literals (good at v n rs) ≡ rules rs
-      within_limit l e = rw (counted, le-leb v variables l, ← h.limit, le-ltb t.fitting t.clauses e)
+  pub within_limit : (variables at v n : ℕ) → t.clauses ≡ n → v ≤ variables → t.past ≡ None → rules_of variables clauses literals (good at v n rs) ≡ rules rs
+  within_limit variables at v n c l e = rw (eq-eqb (length rs) n (sym h.clauses ∙ c), le-leb v variables l, ← h.limit, e)
 
 -- rules that stand in a front of the table stand in the table
-pub rules_front : (x : Rules) (y : RulesAnswer) (front more : List ℤ) → RulesAre x front y → RulesAre x (front ++ more) y
-rules_front (refused n v) (answer.Refused y) front more h = h
-rules_front (refused n v) (answer.Read c l) front more h = h
-rules_front (rules rs) (answer.Refused y) front more h = h
-rules_front (rules rs) (answer.Read c l) front more h = record {
+pub rules_front : (x : Rules) (y : Result struct-of-rules.Rules Refusal) (front more : List ℤ) → RulesAre x front y → RulesAre x (front ++ more) y
+rules_front (refused n v) (Err y) front more h = h
+rules_front (refused n v) (Ok r) front more h = h
+rules_front (rules rs) (Err y) front more h = h
+rules_front (rules rs) (Ok r) front more h = record {
   clauses = h.clauses;
   literals = h.literals;
-  is = take-append-le (l + c) front more
-      (omega (arith, h.clauses, h.literals, ap length h.is, length-take (l + c) front, flat_length (literals_of rs), literals_of_length rs))
+  is = take-append-le (r.literals + r.clauses) front more
+      (omega (arith, h.clauses, h.literals, ap length h.is, length-take (r.literals + r.clauses) front, flat_length (literals_of rs), literals_of_length rs))
       ∙ h.is;
 }
-
--- the code's `p` line
-pub heading_bad : (text : List ℕ) (x : Text) {h : Heading} {at : ℕ} → h ≡ heading.Bad at → HeadingIs text x h → x ≡ bad at
-heading_bad text x e h = rw e at h
-
-pub heading_good : (text : List ℕ) (x : Text) {h : Heading} {head : Head} → h ≡ heading.Good head → HeadingIs text x h
-    → (head.end ≤ length text) × (x ≡ clauses (length text) head.at head.variables head.count [] nothing (left (between false) text head.end))
-heading_good text x e h = rw e at h

@@ -1,36 +1,22 @@
 -- What the code's answers say of the definition of reading.
 -- Assumes nothing.
-use Rattle.std.specs.Prelude.{ℕ, ◌+◌, ◌-◌, ◌≤◌, ◌<◌, ◌≡◌, Bool, true, false, cond, List, [], ◌∷◌, ◌++◌, ltb, ℤ, length, get_or, take, drop}
+use Rattle.std.specs.Prelude.{ℕ, ◌+◌, ◌-◌, ◌≤◌, ◌<◌, ◌≡◌, Bool, true, false, List, [], ◌∷◌, ◌++◌, ℤ, length, get_or, take, drop, Option as Option·code, Some, None, Result, Ok, Err}
 use Rattle.std.proofs.Math.Option.{Option, none, some}
 use Rattle.plan.specs.Front.{Laid}
 use Rattle.plan.specs.Ranged.{literals}
 use Rattle.plan.specs.Written.{flat}
 use Rattle.plan.specs.Refusals.{number_of, value_of}
+use Rattle.plan.specs.declared.refusal.Refusal.{Refusal}
 use Rattle.dimacs.specs.Words.{Word, Place, between, comment, inside, divides, words}
-use Rattle.dimacs.specs.Numbers.{signed, number_in}
+use Rattle.dimacs.specs.Numbers.{number_in}
 use Rattle.dimacs.specs.Reading as reading
 use Rattle.dimacs.specs.Reading.{Rule, Text, bad, good, Rules, refused, rules, counted, not_below, on_line, nothing, begun, clauses, literals_of, first_over}
 use Rattle.dimacs.specs.declared.words.Word as struct-of-word
 use Rattle.dimacs.specs.declared.words.Gap.{Gap}
-use Rattle.dimacs.specs.declared.words.Found.{Found}
-use Rattle.dimacs.specs.declared.words.Found.TheVariants as found
-use Rattle.dimacs.specs.declared.numbers.Number.{Number}
-use Rattle.dimacs.specs.declared.numbers.Number.TheVariants as number
-use Rattle.dimacs.specs.declared.numbers.Size.{Size}
-use Rattle.dimacs.specs.declared.numbers.Size.TheVariants as size
-use Rattle.dimacs.specs.declared.head.Field.{Field}
-use Rattle.dimacs.specs.declared.head.Field.TheVariants as field
-use Rattle.dimacs.specs.declared.head.Count.{Count}
-use Rattle.dimacs.specs.declared.head.Count.TheVariants as count
-use Rattle.dimacs.specs.declared.head.Heading.{Heading}
-use Rattle.dimacs.specs.declared.head.Heading.TheVariants as heading
-use Rattle.dimacs.specs.declared.rules.Tally.{Tally}
-use Rattle.dimacs.specs.declared.rules.Turn.{Turn}
-use Rattle.dimacs.specs.declared.rules.Turn.TheVariants as turn
-use Rattle.dimacs.specs.declared.rules.Scanned.{Scanned}
-use Rattle.dimacs.specs.declared.rules.Scanned.TheVariants as scan
-use Rattle.dimacs.specs.declared.RulesAnswer.{RulesAnswer}
-use Rattle.dimacs.specs.declared.RulesAnswer.TheVariants as answer
+use Rattle.dimacs.specs.declared.head.Head.{Head}
+use Rattle.dimacs.specs.declared.head.BadText.{BadText}
+use Rattle.dimacs.specs.declared.clauses.Tally.{Tally}
+use Rattle.dimacs.specs.declared.Rules as struct-of-rules
 
 -- The words that are left at an offset which stands at a place.
 abbrev pub left : Place → List ℕ → ℕ → List Word
@@ -70,18 +56,14 @@ pub record Ahead (text : List ℕ) (from : ℕ) (leads : Bool) (w : struct-of-wo
   pub within : w.end ≤ length text
   pub same : left (between leads) text from ≡ word_of text w ∷ left (between false) text w.end
 
-abbrev pub FoundIs : List ℕ → ℕ → Bool → Found → Type 0
-FoundIs text from leads (found.Next w) = Ahead text from leads w
-FoundIs text from leads found.Nothing = left (between leads) text from ≡ []
+abbrev pub WordIs : List ℕ → ℕ → Bool → Option·code struct-of-word.Word → Type 0
+WordIs text from leads (Some w) = Ahead text from leads w
+WordIs text from leads None = left (between leads) text from ≡ []
 
--- The code's numbers.
-abbrev pub as_magnitude : Size → Option ℕ
-as_magnitude size.Bad = none
-as_magnitude (size.Is n) = some n
-
-abbrev pub as_number : Number → Option ℤ
-as_number number.Bad = none
-as_number (number.Is negative n) = some (signed negative n)
+-- What the code's answer has, if it has something.
+abbrev pub as_option : {A : Type 0} → Option·code A → Option A
+as_option None = none
+as_option (Some x) = some x
 
 -- A word of the `p` line, and a number not below 0 there: what the definition goes on with.
 pub record FieldAt (text : List ℕ) (from : ℕ) (w : struct-of-word.Word) : Type 0 where
@@ -89,29 +71,21 @@ pub record FieldAt (text : List ℕ) (from : ℕ) (w : struct-of-word.Word) : Ty
   pub within : w.end ≤ length text
   pub same : (f : Word → List Word → Text) → on_line (length text) (left (between false) text from) f ≡ f (word_of text w) (left (between false) text w.end)
 
-abbrev pub FieldIs : List ℕ → ℕ → Field → Type 0
-FieldIs text from (field.Bad at) = (f : Word → List Word → Text) → on_line (length text) (left (between false) text from) f ≡ bad at
-FieldIs text from (field.At w) = FieldAt text from w
+abbrev pub FieldIs : List ℕ → ℕ → Result struct-of-word.Word BadText → Type 0
+FieldIs text from (Err e) = (f : Word → List Word → Text) → on_line (length text) (left (between false) text from) f ≡ bad e.at
+FieldIs text from (Ok w) = FieldAt text from w
 
 abbrev pub count_at : List ℕ → ℕ → (ℕ → List Word → Text) → Text
 count_at text from f = on_line (length text) (left (between false) text from) (λ w rest. counted (not_below (number_in w.bytes)) w.at (λ n. f n rest))
 
-abbrev pub CountIs : List ℕ → ℕ → Count → Type 0
-CountIs text from (count.Bad at) = (f : ℕ → List Word → Text) → count_at text from f ≡ bad at
-CountIs text from (count.Is n end) = (end ≤ length text) × ((f : ℕ → List Word → Text) → count_at text from f ≡ f n (left (between false) text end))
+abbrev pub CountIs : List ℕ → ℕ → Result (ℕ × ℕ) BadText → Type 0
+CountIs text from (Err e) = (f : ℕ → List Word → Text) → count_at text from f ≡ bad e.at
+CountIs text from (Ok (n, end)) = (end ≤ length text) × ((f : ℕ → List Word → Text) → count_at text from f ≡ f n (left (between false) text end))
 
 -- The `p` line, or its rest: what the definition leads to is bad at an offset, or the clauses behind the line.
-abbrev pub HeadingIs : List ℕ → Text → Heading → Type 0
-HeadingIs text x (heading.Bad at) = x ≡ bad at
-HeadingIs text x (heading.Good h) = (h.end ≤ length text) × (x ≡ clauses (length text) h.at h.variables h.count [] nothing (left (between false) text h.end))
-
--- The first clause past the limits, where not all fit.
-abbrev pub limit_of : Tally → Option ℕ
-limit_of t = cond (ltb t.fitting t.clauses) (some t.past) none
-
--- How many clauses come before that one, with a clause more that fits or does not.
-abbrev pub fitting_with : Tally → Bool → ℕ
-fitting_with t fit = cond (ltb t.fitting t.clauses) t.fitting (cond fit (t.clauses + 1) t.clauses)
+abbrev pub HeadIs : List ℕ → Text → Result Head BadText → Type 0
+HeadIs text x (Err e) = x ≡ bad e.at
+HeadIs text x (Ok h) = (h.end ≤ length text) × (x ≡ clauses (length text) h.at h.variables h.count [] nothing (left (between false) text h.end))
 
 -- How many places of the table are in use, or would be with room for all.
 abbrev pub used : Tally → ℕ
@@ -124,28 +98,27 @@ pub record Tallied (ownClauses ownLiterals : ℕ) (done : List Rule) (r : Rule) 
   pub literals : t.literals ≡ literals (literals_of done)
   pub begins : begun r ≡ true → t.start ≡ r.at
   pub unended : t.unended ≡ length r.literals
-  pub fitting : t.fitting ≤ t.clauses
-  pub limit : limit_of t ≡ first_over ownClauses ownLiterals done
+  pub limit : as_option t.past ≡ first_over ownClauses ownLiterals done
   pub stands : Laid (flat (literals_of done) ++ r.literals) 0 before after (used t)
 
 -- A turn counts one place more.
-abbrev pub OneMore : Tally → Turn → Type 0
-OneMore t turn.Wrong = Unit
-OneMore t (turn.Goes u) = used u ≡ used t + 1
+abbrev pub OneMore : Tally → Result Tally BadText → Type 0
+OneMore t (Err e) = Unit {0}
+OneMore t (Ok u) = used u ≡ used t + 1
 
--- A word behind the `p` line: the code's turn is the definition's.
-abbrev pub TurnIs : ℕ → ℕ → List ℤ → List ℤ → reading.Turn → Turn → Type 0
-TurnIs ownClauses ownLiterals before after reading.wrong turn.Wrong = Unit
-TurnIs ownClauses ownLiterals before after reading.wrong (turn.Goes t) = ⊥
-TurnIs ownClauses ownLiterals before after (reading.goes done r) turn.Wrong = ⊥
-TurnIs ownClauses ownLiterals before after (reading.goes done r) (turn.Goes t) = Tallied ownClauses ownLiterals done r before after t
+-- A word at an offset behind the `p` line: the code's turn is the definition's.
+abbrev pub TurnIs : ℕ → ℕ → ℕ → List ℤ → List ℤ → reading.Turn → Result Tally BadText → Type 0
+TurnIs ownClauses ownLiterals at before after reading.wrong (Err e) = e.at ≡ at
+TurnIs ownClauses ownLiterals at before after reading.wrong (Ok t) = ⊥
+TurnIs ownClauses ownLiterals at before after (reading.goes done r) (Err e) = ⊥
+TurnIs ownClauses ownLiterals at before after (reading.goes done r) (Ok t) = Tallied ownClauses ownLiterals done r before after t
 
 -- All words behind the `p` line.
-abbrev pub ScanIs : ℕ → ℕ → List ℤ → List ℤ → Text → Scanned → Type 0
-ScanIs ownClauses ownLiterals before after (bad at) (scan.Bad v) = v ≡ at
-ScanIs ownClauses ownLiterals before after (bad at) (scan.Good t) = ⊥
-ScanIs ownClauses ownLiterals before after (good p v c rs) (scan.Bad at) = ⊥
-ScanIs ownClauses ownLiterals before after (good p v c rs) (scan.Good t) = Tallied ownClauses ownLiterals rs nothing before after t
+abbrev pub ScanIs : ℕ → ℕ → List ℤ → List ℤ → Text → Result Tally BadText → Type 0
+ScanIs ownClauses ownLiterals before after (bad at) (Err e) = e.at ≡ at
+ScanIs ownClauses ownLiterals before after (bad at) (Ok t) = ⊥
+ScanIs ownClauses ownLiterals before after (good p v c rs) (Err e) = ⊥
+ScanIs ownClauses ownLiterals before after (good p v c rs) (Ok t) = Tallied ownClauses ownLiterals rs nothing before after t
 
 -- The rules stand in the table's front.
 pub record Read (rs : List Rule) (table : List ℤ) (c l : ℕ) : Type 0 where
@@ -153,8 +126,8 @@ pub record Read (rs : List Rule) (table : List ℤ) (c l : ℕ) : Type 0 where
   pub literals : l ≡ literals (literals_of rs)
   pub is : take (l + c) table ≡ flat (literals_of rs)
 
-abbrev pub RulesAre : Rules → List ℤ → RulesAnswer → Type 0
-RulesAre (refused n v) table (answer.Refused y) = (n ≡ number_of y) × (v ≡ value_of y)
-RulesAre (refused n v) table (answer.Read c l) = ⊥
-RulesAre (rules rs) table (answer.Refused y) = ⊥
-RulesAre (rules rs) table (answer.Read c l) = Read rs table c l
+abbrev pub RulesAre : Rules → List ℤ → Result struct-of-rules.Rules Refusal → Type 0
+RulesAre (refused n v) table (Err y) = (n ≡ number_of y) × (v ≡ value_of y)
+RulesAre (refused n v) table (Ok r) = ⊥
+RulesAre (rules rs) table (Err y) = ⊥
+RulesAre (rules rs) table (Ok r) = Read rs table r.clauses r.literals

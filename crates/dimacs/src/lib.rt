@@ -1,76 +1,64 @@
 // dimacs: clauses as DIMACS text: rules are read from it, and clauses are printed as it.
 #![tactic(auto)]
 
+mod clauses;
 mod head;
 mod numbers;
 mod printing;
 mod records;
-mod rules;
 mod words;
 
-ghost use Rattle.std.specs.Prelude.{false, ◌≡◌, List, [], ◌≤◌, ℤ, length};
+ghost use Rattle.std.specs.Prelude.{◌≡◌, List, ◌≤◌, ℤ, length};
 ghost use Rattle.plan.specs.ClauseTable.{max_table};
 ghost use Rattle.plan.specs.Ranged.{max_variables, max_clauses, max_literals};
-ghost use Rattle.dimacs.specs.Words.{between};
-ghost use Rattle.dimacs.specs.Reading.{Rule, good, read_rules, rules_of, clauses, nothing};
-ghost use Rattle.dimacs.specs.Scanning.{left, Tallied, RulesAre};
+ghost use Rattle.dimacs.specs.Reading.{Rule, good, read_rules, rules_of, nothing};
+ghost use Rattle.dimacs.specs.Scanning.{Tallied, RulesAre};
 
-use head::{Head, Heading, head_of};
-use plan::{Plan, Refusal, wide};
-pub use printing::{print_atom_line, print_head, print_numbers, print_table};
+use clauses::{Tally, scan};
+use head::{Head, head_of};
+use plan::{Plan, Refusal};
+pub use printing::Printer;
 pub use records::put_records;
-use rules::{Scanned, Tally, scan};
 
-// What reading rules answers: why they are refused, or how many clauses and literals stand in the table.
-#[derive(Clone, Copy)]
-pub enum RulesAnswer {
-    Refused(Refusal),
-    Read(usize, usize),
+// How many clauses and literals of rules stand in the table.
+#[derive(Clone, Copy, Debug, PartialEq, Eq)]
+pub struct Rules {
+    pub clauses: usize,
+    pub literals: usize,
 }
 
 // Reads a text as rules for a plan: its clauses go to the table, or it is refused. What then stands in the table says nothing.
-pub fn read_rules(plan: Plan, text: &[u8], table: &mut [i16]) -> RulesAnswer
+pub fn read_rules(plan: Plan, text: &[u8], table: &mut [i16]) -> Result<Rules, Refusal>
     requires table_len { length table.old ≡ max_table }
     requires variables_le_max_variables { (plan.variables ≤ max_variables) × (plan.clauses ≤ max_clauses) × (plan.literals ≤ max_literals) }
     ensures { RulesAre (read_rules plan.variables plan.clauses plan.literals text.now) table.new result }
 {
-    let heading = head_of(text);
-    match heading {
-        Heading::Bad(at) => RulesAnswer::Refused(Refusal::BadText(at)),
-        Heading::Good(head) => read_behind(plan, text, head, table),
-    }
-}
-
-// Goes on behind the `p` line. Literals that no plan has are not kept: such a text is refused anyhow.
-fn read_behind(plan: Plan, text: &[u8], head: Head, table: &mut [i16]) -> RulesAnswer
-    requires table_len { length table.old ≡ max_table }
-    requires variables_le_max_variables { (plan.variables ≤ max_variables) × (plan.clauses ≤ max_clauses) × (plan.literals ≤ max_literals) }
-    requires end_in_bounds { head.end ≤ length text.now }
-    ensures { RulesAre (rules_of plan.variables plan.clauses plan.literals (clauses (length text.now) head.at head.variables head.count [] nothing (left (between false) text.now head.end))) table.new result }
-{
-    let mut room = 0;
-    if head.variables as usize <= wide(plan.variables) {
-        room = table.len();
-    }
-    let scanned = scan(text, head, plan, &mut table[..room]);
-    match scanned {
-        Scanned::Bad(at) => RulesAnswer::Refused(Refusal::BadText(at)),
-        Scanned::Good(tally) => judged(plan, head, tally),
-    }
+    let head = head_of(text)?;
+    // Literals that no plan has are not kept: such a text is refused anyhow.
+    let room = if head.variables <= u32::from(plan.variables) {
+        table.len()
+    } else {
+        0
+    };
+    let tally = scan(text, head, plan, &mut table[..room])?;
+    judged(plan, head, tally)
 }
 
 // The refusals of a good text, by what was counted in it.
-fn judged(plan: Plan, head: Head, tally: Tally) -> RulesAnswer
+fn judged(plan: Plan, head: Head, tally: Tally) -> Result<Rules, Refusal>
     ensures { (rs : List Rule) (before after : List ℤ) → Tallied plan.clauses plan.literals rs nothing before after tally → (head.variables ≤ plan.variables → length before ≡ max_table) → RulesAre (rules_of plan.variables plan.clauses plan.literals (good head.at head.variables head.count rs)) after result }
 {
     if tally.clauses != head.count as usize {
-        return RulesAnswer::Refused(Refusal::WrongCount(head.at));
+        return Err(Refusal::WrongCount(head.at));
     }
-    if head.variables as usize > wide(plan.variables) {
-        return RulesAnswer::Refused(Refusal::TooManyVariables(head.at));
+    if head.variables > u32::from(plan.variables) {
+        return Err(Refusal::TooManyVariables(head.at));
     }
-    if tally.fitting < tally.clauses {
-        return RulesAnswer::Refused(Refusal::TooMany(tally.past));
+    if let Some(at) = tally.past {
+        return Err(Refusal::TooMany(at));
     }
-    RulesAnswer::Read(tally.clauses, tally.literals)
+    Ok(Rules {
+        clauses: tally.clauses,
+        literals: tally.literals,
+    })
 }

@@ -1,10 +1,54 @@
-// Numbers as text: a clause a line, one blank between numbers. Every printer prints from the place `at` on, as far as there is room, and hands back
-// the place behind what it printed or would have printed.
-ghost use Rattle.std.specs.Prelude.{◌≡◌, [], ◌∷◌, ◌+◌, ◌*◌, length};
-ghost use Rattle.plan.specs.Front.{Room, Put, Laid};
+// Numbers as text: a clause a line, one blank between numbers.
+ghost use Rattle.std.specs.Prelude.{◌≡◌, List, [], ◌∷◌, ℕ, ◌+◌, ◌*◌, ◌<◌, ℤ, pos, length, get_or, refl};
+ghost use Rattle.std.proofs.Common.{rules};
+ghost use Rattle.std.proofs.lemmas.Grind.{common_steps};
+ghost use Rattle.plan.specs.Front.{Room, Put};
+ghost use Rattle.dimacs.specs.Printers.{Lays};
 ghost use Rattle.dimacs.specs.Printing.{numeral, entry, entries, head_line, atom_line, Near};
 
-use plan::magnitude;
+// A number of a list of clauses: a literal, or the 0 that ends a clause.
+pub trait Entry: Copy {
+    ghost number: { Self → ℤ };
+
+    // The numbers of a list: for the types here the list itself, so that a promise speaks of it as it is.
+    ghost numbers: { List Self → List ℤ };
+
+    // The number, with room for all.
+    fn widened(self) -> i32
+        ensures { result ≡ number self };
+
+    ghost as_many: { (xs : List Self) → length (numbers xs) ≡ length xs };
+
+    ghost one_by_one: { (xs : List Self) (k : ℕ) (d : Self) → k < length xs → get_or (numbers xs) k (pos 0) ≡ number (get_or xs k d) };
+}
+
+impl Entry for i32 {
+    ghost number = { λ x. x };
+
+    ghost numbers = { λ xs. xs };
+
+    ghost as_many = { λ xs. refl };
+
+    ghost one_by_one = { Prim.search (rules, common_steps) };
+
+    fn widened(self) -> i32 {
+        self
+    }
+}
+
+impl Entry for i16 {
+    ghost number = { λ x. x };
+
+    ghost numbers = { λ xs. xs };
+
+    ghost as_many = { λ xs. refl };
+
+    ghost one_by_one = { Prim.search (rules, common_steps) };
+
+    fn widened(self) -> i32 {
+        i32::from(self)
+    }
+}
 
 // How many digits a number has.
 fn width(number: u32) -> usize
@@ -12,127 +56,115 @@ fn width(number: u32) -> usize
 {
     let mut digits = 1;
     let mut bound = 10u64;
-    while number as u64 >= bound {
+    // A step of ten times, not of one. Tried: by `ilog10` a text takes 1.4 to 1.7 times as long to print.
+    while u64::from(number) >= bound {
         bound *= 10;
         digits += 1;
     }
     digits
 }
 
-// A number's digits, for which there is room.
+// A number's digits, for which there is room. It takes no printer: it fills the places from the last to the first, and no place goes on with it.
 fn spell(out: &mut [u8], at: usize, number: u32, digits: usize)
     requires room { Room (numeral number) at out.old }
     requires digits_value { digits ≡ length (numeral number) }
     ensures { Put (numeral number) at out.old out.new (at + digits) }
 {
     let mut rest = number;
-    let mut left = digits;
-    while left > 0 {
-        left -= 1;
-        out[at + left] = b'0' + (rest % 10) as u8;
+    for place in (at..at + digits).rev() {
+        out[place] = b'0' + (rest % 10) as u8;
         rest /= 10;
     }
 }
 
-// A byte.
-fn lay_byte(out: &mut [u8], at: usize, byte: u8) -> usize
-    requires { Near at }
-    ensures { Laid (byte ∷ []) at out.old out.new result }
-{
-    if at < out.len() {
-        out[at] = byte;
-    }
-    at + 1
+// A lent buffer, and the place in it from which on the next is printed. All is printed as far as there is room, and the place goes on all the same: in the
+// end it is the one behind what was printed or would have been.
+#[derive(Drop)]
+pub struct Printer<'a> {
+    pub out: &'a mut [u8],
+    pub at: usize,
 }
 
-fn lay_bytes(out: &mut [u8], at: usize, bytes: &[u8]) -> usize
-    requires { Near (at + length bytes.now) }
-    ensures { Laid bytes.now at out.old out.new result }
-{
-    let mut end = at;
-    let mut i = 0;
-    while i < bytes.len() {
-        end = lay_byte(out, end, bytes[i]);
-        i += 1;
+impl Printer<'_> {
+    fn byte(&mut self, byte: u8)
+        requires { Near self.old.at }
+        ensures { Lays (byte ∷ []) self.old self.new }
+    {
+        if self.at < self.out.len() {
+            self.out[self.at] = byte;
+        }
+        self.at += 1;
     }
-    end
-}
 
-fn lay_number(out: &mut [u8], at: usize, number: u32) -> usize
-    requires { Near at }
-    ensures { Laid (numeral number) at out.old out.new result }
-{
-    let digits = width(number);
-    let end = at + digits;
-    if end <= out.len() {
-        spell(out, at, number, digits);
+    fn bytes(&mut self, bytes: &[u8])
+        requires { Near (self.old.at + length bytes.now) }
+        ensures { Lays bytes.now self.old self.new }
+    {
+        for byte in bytes {
+            self.byte(*byte);
+        }
     }
-    end
-}
 
-// A number and what stands behind it: a 0 ends its line.
-fn lay_entry(out: &mut [u8], at: usize, value: i32) -> usize
-    requires { Near (at + 12) }
-    ensures { Laid (entry value) at out.old out.new result }
-{
-    let mut next = at;
-    if value < 0 {
-        next = lay_byte(out, at, b'-');
+    fn number(&mut self, number: u32)
+        requires { Near self.old.at }
+        ensures { Lays (numeral number) self.old self.new }
+    {
+        let digits = width(number);
+        let end = self.at + digits;
+        if end <= self.out.len() {
+            spell(self.out, self.at, number, digits);
+        }
+        self.at = end;
     }
-    next = lay_number(out, next, magnitude(value));
-    if value == 0 {
-        return lay_byte(out, next, b'\n');
+
+    // A number and what stands behind it: a 0 ends its line.
+    fn entry(&mut self, value: i32)
+        requires { Near (self.old.at + 12) }
+        ensures { Lays (entry value) self.old self.new }
+    {
+        if value < 0 {
+            self.byte(b'-');
+        }
+        self.number(value.unsigned_abs());
+        let divider = if value == 0 { b'\n' } else { b' ' };
+        self.byte(divider);
     }
-    lay_byte(out, next, b' ')
-}
 
-// Clauses, each ended by 0.
-pub fn print_numbers(out: &mut [u8], at: usize, numbers: &[i32]) -> usize
-    requires { Near (at + 12 * length numbers.now) }
-    ensures { Laid (entries numbers.now) at out.old out.new result }
-{
-    let mut end = at;
-    let mut i = 0;
-    while i < numbers.len() {
-        end = lay_entry(out, end, numbers[i]);
-        i += 1;
+    // Clauses, each ended by 0.
+    pub fn numbers<T: Entry>(&mut self, numbers: &[T])
+        requires { Near (self.old.at + 12 * length numbers.now) }
+        ensures { Lays (entries (T.numbers numbers.now)) self.old self.new }
+    {
+        // By a printer of the loop's own, whose place stays in a register. Tried: with `self` in its stead a text takes a seventh longer to print.
+        let mut printer = Printer {
+            out: &mut *self.out,
+            at: self.at,
+        };
+        for number in numbers {
+            printer.entry(number.widened());
+        }
+        self.at = printer.at;
     }
-    end
-}
 
-// The same, of a clause table.
-pub fn print_table(out: &mut [u8], at: usize, clauses: &[i16]) -> usize
-    requires { Near (at + 12 * length clauses.now) }
-    ensures { Laid (entries clauses.now) at out.old out.new result }
-{
-    let mut end = at;
-    let mut i = 0;
-    while i < clauses.len() {
-        let value = clauses[i];
-        end = lay_entry(out, end, value as i32);
-        i += 1;
+    // The `p cnf` line.
+    pub fn head(&mut self, variables: u32, clauses: u32)
+        requires { Near (self.old.at + 40) }
+        ensures { Lays (head_line variables clauses) self.old self.new }
+    {
+        self.bytes(b"p cnf ");
+        self.number(variables);
+        self.byte(b' ');
+        self.number(clauses);
+        self.byte(b'\n');
     }
-    end
-}
 
-// The `p cnf` line.
-pub fn print_head(out: &mut [u8], at: usize, variables: u32, clauses: u32) -> usize
-    requires { Near (at + 40) }
-    ensures { Laid (head_line variables clauses) at out.old out.new result }
-{
-    let next = lay_bytes(out, at, b"p cnf ");
-    let next = lay_number(out, next, variables);
-    let next = lay_byte(out, next, b' ');
-    let next = lay_number(out, next, clauses);
-    lay_byte(out, next, b'\n')
-}
-
-// The line `c atom` with an atom's number.
-pub fn print_atom_line(out: &mut [u8], at: usize, atom: u32) -> usize
-    requires { Near (at + 40) }
-    ensures { Laid (atom_line atom) at out.old out.new result }
-{
-    let next = lay_bytes(out, at, b"c atom ");
-    let next = lay_number(out, next, atom);
-    lay_byte(out, next, b'\n')
+    // The line `c atom` with an atom's number.
+    pub fn atom_line(&mut self, atom: u32)
+        requires { Near (self.old.at + 40) }
+        ensures { Lays (atom_line atom) self.old self.new }
+    {
+        self.bytes(b"c atom ");
+        self.number(atom);
+        self.byte(b'\n');
+    }
 }

@@ -1,7 +1,8 @@
 // The words of a text, one after the other; comments are passed over.
-ghost use Rattle.std.specs.Prelude.{◌≡◌, ◌≤◌, length};
-ghost use Rattle.dimacs.specs.Words.{divides};
-ghost use Rattle.dimacs.specs.Scanning.{Skipped, Passed, Extended, FoundIs};
+ghost use Rattle.std.specs.Prelude.{◌≡◌, ◌≤◌, not, ◌==◌, length};
+ghost use Rattle.std.specs.List.{prefix_len};
+ghost use Rattle.dimacs.specs.Words.{line_end as Words·line_end, divides};
+ghost use Rattle.dimacs.specs.Scanning.{Skipped, Passed, Extended, WordIs};
 
 // Where a word starts and ends, and whether it is the first of its line.
 #[derive(Clone, Copy)]
@@ -11,12 +12,6 @@ pub struct Word {
     pub leads: bool,
 }
 
-#[derive(Clone, Copy)]
-pub enum Found {
-    Next(Word),
-    Nothing,
-}
-
 // An offset between two words, and whether the line has none yet.
 #[derive(Clone, Copy)]
 struct Gap {
@@ -24,10 +19,11 @@ struct Gap {
     leads: bool,
 }
 
+#[tactic(auto, unfolding(crate::specs::Words::divides))]
 fn is_divider(byte: u8) -> bool
     ensures { result ≡ divides byte }
 {
-    byte == b' ' || byte == b'\t' || byte == b'\r' || byte == b'\n'
+    matches!(byte, b' ' | b'\t' | b'\r' | b'\n')
 }
 
 // Passes over dividers.
@@ -35,25 +31,32 @@ fn skip(text: &[u8], from: usize, leads: bool) -> Gap
     requires { from ≤ length text.now }
     ensures { Skipped text.now from leads result }
 {
-    let mut at = from;
     let mut fresh = leads;
-    while at < text.len() {
+    for at in from..text.len() {
         let byte = text[at];
         if !is_divider(byte) {
-            return Gap {
-                at: at,
-                leads: fresh,
-            };
+            return Gap { at, leads: fresh };
         }
-        if byte == b'\n' {
-            fresh = true;
-        }
-        at += 1;
+        fresh |= byte == b'\n';
     }
     Gap {
-        at: at,
+        at: text.len(),
         leads: fresh,
     }
+}
+
+// How many bytes come before the line's end.
+fn before_line_end(bytes: &[u8]) -> usize
+    ensures { result ≡ prefix_len (λ b. not (b == Words·line_end)) bytes.now }
+{
+    bytes.iter().take_while(|byte| **byte != b'\n').count()
+}
+
+// How many bytes come before a divider.
+fn before_divider(bytes: &[u8]) -> usize
+    ensures { result ≡ prefix_len (λ b. not (divides b)) bytes.now }
+{
+    bytes.iter().take_while(|byte| !is_divider(**byte)).count()
 }
 
 // The end of the line, from within a comment.
@@ -61,14 +64,7 @@ fn line_end(text: &[u8], from: usize) -> usize
     requires { from ≤ length text.now }
     ensures { Passed text.now from result }
 {
-    let mut at = from;
-    while at < text.len() {
-        if text[at] == b'\n' {
-            return at;
-        }
-        at += 1;
-    }
-    at
+    from + before_line_end(&text[from..])
 }
 
 // The end of the word, from within it.
@@ -76,37 +72,24 @@ fn word_end(text: &[u8], from: usize) -> usize
     requires { from ≤ length text.now }
     ensures { Extended text.now from result }
 {
-    let mut at = from;
-    while at < text.len() {
-        if is_divider(text[at]) {
-            return at;
-        }
-        at += 1;
-    }
-    at
+    from + before_divider(&text[from..])
 }
 
 // The next word from an offset on that is in no comment.
-pub fn next_word(text: &[u8], from: usize, leads: bool) -> Found
+pub fn next_word(text: &[u8], from: usize, leads: bool) -> Option<Word>
     requires { from ≤ length text.now }
-    ensures { FoundIs text.now from leads result }
+    ensures { WordIs text.now from leads result }
 {
     let mut gap = skip(text, from, leads);
-    let mut start = gap.at;
-    while start < text.len() {
-        let first = gap.leads;
-        if !(first && text[start] == b'c') {
+    // Not a step of one: a turn passes over a whole comment.
+    while gap.at < text.len() {
+        let Gap { at: start, leads } = gap;
+        if !(leads && text[start] == b'c') {
             let end = word_end(text, start + 1);
-            let word = Word {
-                start: start,
-                end: end,
-                leads: first,
-            };
-            return Found::Next(word);
+            return Some(Word { start, end, leads });
         }
         let end = line_end(text, start + 1);
         gap = skip(text, end, true);
-        start = gap.at;
     }
-    Found::Nothing
+    None
 }

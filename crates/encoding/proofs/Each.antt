@@ -2,13 +2,14 @@
 -- Assumes nothing.
 use mathlib.Core.Path.{◌≡◌, refl, sym, ◌∙◌, ap, ap₂, subst}
 use mathlib.Core.List.{List, [], ◌∷◌, ◌++◌, append_assoc}
-use mathlib.Core.Bool.{Bool, true, false, ◌&&◌, ◌||◌}
+use mathlib.Core.Bool.{Bool, false, ◌&&◌, ◌||◌}
 use mathlib.Core.Logic.{◌↔◌, ◌⊎◌, inl, inr}
 use Prim.Native.Nat.{ℕ, zero, suc, ◌+◌, ◌*◌, ◌≤◌, ◌<◌}
 use native.Mathlib.Omega.{arith}
 use lib.Dec.{T}
 use lib.IntN.{ℤ, pos}
 use lib.ListN.{length, length-append}
+use Rattle.std.proofs.Math.Bool.{and_assoc, or_assoc}
 use Rattle.plan.specs.Written.{each, flat}
 use Rattle.plan.proofs.Bools.{any_of, all_of, or_cases, or_left, or_right, and_both, and_left, and_right}
 use Rattle.plan.proofs.Lists.{le_or_lt}
@@ -23,14 +24,6 @@ below_suc {P = P} {n} f p i h = go (le_or_lt n i)
     go : (n ≤ i) ⊎ (i < n) → P i
     go (inl l) = let e : n ≡ i = omega arith in subst P e p
     go (inr l) = f i l
-
-pub and_assoc : (a b c : Bool) → ((a && b) && c) ≡ (a && (b && c))
-and_assoc true b c = refl
-and_assoc false b c = refl
-
-pub or_assoc : (a b c : Bool) → ((a || b) || c) ≡ (a || (b || c))
-or_assoc true b c = refl
-or_assoc false b c = refl
 
 pub T_and : (a b : Bool) → T (a && b) ↔ (T a × T b)
 T_and a b = ((λ h. (and_left a b h, and_right a b h)), (λ h. and_both a b h.0 h.1))

@@ -1,19 +1,19 @@
 -- Every literal of the written clauses is one of a variable from 1 to the last; so the numbers read back at the zeros are the clauses. No clause is empty.
 -- Assumes nothing.
-use mathlib.Core.Path.{◌≡◌, refl, sym, ◌∙◌, ap, subst}
+use mathlib.Core.Path.{◌≡◌, refl, sym, subst}
 use mathlib.Core.List.{List, [], ◌∷◌, ◌++◌, Memᴰ}
 use mathlib.Core.Bool.{Bool, true, false, cond}
 use Prim.Native.Nat.{ℕ, zero, suc, ◌+◌, ◌≤◌, ◌<◌}
 use native.Mathlib.Omega.{arith}
-use lib.IntN.{ℤ, pos, nat_abs}
+use lib.IntN.{ℤ, pos}
 use lib.Dec.{eqb}
 use lib.ListN.{length}
 use Rattle.plan.specs.Meaning.{Edge, Atom, PlanFile, edge, on, off}
-use Rattle.plan.specs.Ranged.{EndsFit, LiteralFits, Ranged}
+use Rattle.plan.specs.Ranged.{EndsFit, LiteralFits, InRange, Ranged}
 use Rattle.plan.specs.Tables.{clauses_of}
 use Rattle.plan.specs.Written.{each, flat, R, U, into, start_clauses, edge_clauses, node_clauses, level_clauses, end_clauses, block, levels, block_variables, atom_block, after, blocks, last, written, last_variable}
 use Rattle.plan.proofs.Signs.{nat_abs_neg}
-use Rattle.plan.proofs.ClauseTable.{clause_at_lem}
+use Rattle.plan.proofs.ClauseTable.{flat_back}
 use Rattle.plan.proofs.Lists.{mem_at}
 use Rattle.encoding.proofs.Forced.{R_in, U_in}
 use Rattle.encoding.proofs.Blocks.{last_ge}
@@ -24,7 +24,7 @@ All P [] = Unit {0}
 All P (x ∷ xs) = P x × All P xs
 
 module _ {A : Type 0} (P : A → Type 0) where
-  pub all_in : (xs : List A) (x : A) → Memᴰ x xs → All P xs → P x
+  all_in : (xs : List A) (x : A) → Memᴰ x xs → All P xs → P x
   all_in [] x m h = elim m [ ]
   all_in (y ∷ xs) x (Memᴰ.head e) h = subst P (sym e) h.0
   all_in (y ∷ xs) x (Memᴰ.tail m) h = all_in xs x m h.1
@@ -117,14 +117,6 @@ module _ (n : ℕ) (es : List Edge) (variables top : ℕ) (fits : (k : ℕ) → 
       (block_fits base low (levels n A) (omega (arith, last_ge n es (after n es base A) As)) A.from A.to A.variable a.to_in a.low a.high)
       (blocks_fit (after n es base A) As (omega arith) (λ B m. all B (Memᴰ.tail m)) high)
 
-read_flat : (top : ℕ) (Cs : List (List ℤ)) → Fit top Cs → clauses_of (flat Cs) ≡ Cs
-unfolding clauses_of flat
-read_flat top [] h = refl
-read_flat top (C ∷ Cs) h = clause_at_lem C (flat Cs) (λ l m e. not_zero l (all_in (LiteralFits top) C l m h.0) e) ∙ ap (λ Ds. C ∷ Ds) (read_flat top Cs h.1)
-  where
-    not_zero : (l : ℤ) → LiteralFits top l → l ≡ pos 0 → ⊥
-    not_zero l f e = omega (arith, f.low, ap nat_abs e)
-
 module _ (φ : PlanFile) (r : Ranged φ) where
   pub edge_ends : (k : ℕ) → k < length φ.edges → EndsFit φ.nodes φ.variables (edge φ.edges k).from (edge φ.edges k).to (edge φ.edges k).variable
   edge_ends k l = r.edge (edge φ.edges k) (mem_at φ.edges _ k l)
@@ -145,6 +137,9 @@ module _ (φ : PlanFile) (r : Ranged φ) where
       all_append (All (LiteralFits (last_variable φ))) φ.clauses _ (own_fits (last_variable φ) variables_first)
       (blocks_fit φ.nodes φ.edges φ.variables (last_variable φ) edge_ends φ.variables φ.atoms (omega arith) r.atom (omega arith))
 
+  pub written_in_range : InRange (last_variable φ) (written φ)
+  written_in_range C m l k = all_in (LiteralFits (last_variable φ)) C l k (all_in (All (LiteralFits (last_variable φ))) (written φ) C m written_fits)
+
   -- reading the numbers back at the zeros gives the clauses
   pub read_back : clauses_of (flat (written φ)) ≡ written φ
-  read_back = read_flat (last_variable φ) (written φ) written_fits
+  read_back = flat_back (written φ) written_in_range

@@ -13,8 +13,9 @@ use lib.ListN.{length, length-append}
 use Rattle.plan.specs.declared.Kind.{Kind}
 use Rattle.plan.specs.declared.Kind.TheVariants.{Reaches, Within, LengthAtMost}
 use Rattle.plan.specs.Meaning.{Edge, Atom, PlanFile, edge, on, off}
-use Rattle.plan.specs.Ranged.{max_nodes, max_edges, max_atoms, literals, Ranged}
+use Rattle.plan.specs.Ranged.{max_nodes, max_edges, max_atoms, Ranged}
 use Rattle.plan.specs.Written.{each, flat, R, U, into, start_clauses, edge_clauses, node_clauses, level_clauses, end_clauses, block, levels_of, levels, block_variables, block_clauses, block_numbers, atom_block, after, blocks, last, written, last_variable}
+use Rattle.plan.proofs.ClauseTable.{flat_length}
 use Rattle.plan.proofs.Lists.{le_or_lt}
 use Rattle.encoding.specs.Counts.{total, Counted, InLimits, most_block_variables, most_block_clauses, most_block_numbers, most_variables, most_clauses, most_numbers}
 use Rattle.encoding.proofs.Each.{below_zero, flat_append, flat_each, sum, sum_same, sum_const, sum_add, sum_mul, sum_swap, length_each}
@@ -58,12 +59,6 @@ numbers_append Cs Ds = ap length (flat_append Cs Ds) ∙ length-append (flat Cs)
 
 numbers_each : (n : ℕ) (f : ℕ → List (List ℤ)) → length (flat (each n f)) ≡ sum n (λ i. length (flat (f i)))
 numbers_each n f = ap length (flat_each n f) ∙ length_each n (λ i. flat (f i))
-
--- a file's own numbers: the literals, and a 0 for each clause
-pub numbers_own : (Cs : List (List ℤ)) → length (flat Cs) ≡ literals Cs + length Cs
-unfolding flat literals
-numbers_own [] = refl
-numbers_own (C ∷ Cs) = length-append C (pos 0 ∷ flat Cs) ∙ omega (arith, numbers_own Cs)
 
 module _ (n : ℕ) (es : List Edge) (base : ℕ) (to_in : (k : ℕ) → k < length es → (edge es k).to < n) where
   abbrev m : ℕ
@@ -189,7 +184,7 @@ counted φ r =
     record {
       variables = last_is_lem n es φ.variables φ.atoms;
       clauses = length-append φ.clauses (blocks n es φ.variables φ.atoms) ∙ ap (λ k. length φ.clauses + k) (blocks_clauses n es to_in φ.variables φ.atoms);
-      numbers = numbers_append φ.clauses (blocks n es φ.variables φ.atoms) ∙ ap₂ ◌+◌ (numbers_own φ.clauses) (blocks_numbers n es to_in φ.variables φ.atoms);
+      numbers = numbers_append φ.clauses (blocks n es φ.variables φ.atoms) ∙ ap₂ ◌+◌ (flat_length φ.clauses) (blocks_numbers n es to_in φ.variables φ.atoms);
     }
 
 pub levels_le : (n : ℕ) (A : Atom) → levels n A ≤ n - 1

@@ -2,23 +2,13 @@
 -- Assumes nothing.
 use mathlib.Core.Path.{sym}
 use mathlib.Core.List.{List, ◌++◌}
-use Prim.Native.Nat.{ℕ}
-use native.Mathlib.Omega.{arith}
 use lib.IntN.{ℤ}
-use lib.ListN.{length-append}
-use Rattle.plan.specs.Front.{Laid}
-use Rattle.plan.proofs.Laying.{laid_as, laid_then}
 use Rattle.dimacs.specs.Printing.{entries}
-use Rattle.dimacs.proofs.Digits.{entries_append, entries_length}
-use Rattle.listing.specs.Parts.{Ahead}
+use Rattle.dimacs.specs.Printers.{Lays}
+use Rattle.dimacs.specs.declared.printing.Printer.{Printer}
+use Rattle.dimacs.proofs.Digits.{entries_append}
+use Rattle.dimacs.proofs.Printers.{lays_as, lays_then}
 
 module _ (ws vs : List ℤ) where
-  pub entries_then : {old mid new : List ℕ} {at a b : ℕ} → Laid (entries ws) at old mid a → Laid (entries vs) a mid new b → Laid (entries (ws ++ vs)) at old new b
-  entries_then h k = laid_as (sym (entries_append ws vs)) (laid_then h k)
-
-  -- both can be counted on: the first from there, and the second behind it
-  pub ahead_first : (at : ℕ) → Ahead at (ws ++ vs) → Ahead at ws
-  ahead_first at l = omega (arith, length-append ws vs)
-
-  pub ahead_rest : {old mid : List ℕ} {at a : ℕ} → Laid (entries ws) at old mid a → Ahead at (ws ++ vs) → Ahead a vs
-  ahead_rest h l = omega (arith, length-append ws vs, h.count, entries_length ws)
+  pub entries_then : {old mid new : Printer} → Lays (entries ws) old mid → Lays (entries vs) mid new → Lays (entries (ws ++ vs)) old new
+  entries_then h k = lays_as (sym (entries_append ws vs)) (lays_then h k)

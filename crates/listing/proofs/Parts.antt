@@ -7,8 +7,10 @@ use native.Mathlib.Omega.{arith}
 use lib.IntN.{ℤ}
 use lib.ListN.{length}
 use Rattle.plan.specs.declared.Plan.{Plan}
+use Rattle.plan.specs.declared.Edge as struct-of-edge
+use Rattle.plan.specs.declared.Atom as struct-of-atom
 use Rattle.plan.specs.Meaning.{Edge, Atom, PlanFile}
-use Rattle.plan.specs.Tables.{edges_of, atoms_of, plan_of, Lent}
+use Rattle.plan.specs.Tables.{plan_of, Lent}
 use Rattle.plan.specs.Written.{each, flat, atom_block, after, last, written, last_variable}
 use Rattle.clauses.specs.declared.Counts.{Counts}
 use Rattle.clauses.specs.Rows.{block_row}
@@ -41,7 +43,7 @@ parts_whole φ =
     (each_same (length As) _ _ (λ j. ap (λ i. atom_line i ++ entries (piece φ.nodes φ.edges φ.variables As j)) (omega arith))
     ∙ sym (blocks_each φ.nodes φ.edges 1 φ.variables As))
 
-module _ {p : Plan} {edges atoms : List ℕ} {clauses : List ℤ} (lent : Lent p edges atoms clauses) where
+module _ {p : Plan} {edges : List struct-of-edge.Edge} {atoms : List struct-of-atom.Atom} {clauses : List ℤ} (lent : Lent p edges atoms clauses) where
   abbrev φ : PlanFile
   φ = plan_of p edges atoms clauses
 
@@ -51,11 +53,8 @@ module _ {p : Plan} {edges atoms : List ℕ} {clauses : List ℤ} (lent : Lent p
       ap₂ (λ v k. head_line v k ++ entries clauses) is.variables is.clauses
       ∙ ap (λ l. head_line (last_variable φ) (length (written φ)) ++ entries l) (sym lent.ended)
 
-  -- the block of the atom numbered j, from 0, with the numbers as the code reads them
-  pub block_is : {n base j b top number : ℕ} {A : Atom} → n ≡ p.nodes → base ≡ p.variables → number ≡ suc j
-      → Turn n (edges_of edges) base (atoms_of atoms) j b top A
-      → atom_line number ++ entries (block_row n (edges_of edges) b top A.from A.to A.variable) ≡ part φ (suc j)
-  unfolding part
-  block_is {j = j} n-is base-is number_is t =
-      ap₂ (λ k l. atom_line k ++ entries l) number_is (next_row t)
-      ∙ ap₂ (λ m v. atom_line (suc j) ++ entries (piece m (edges_of edges) v (atoms_of atoms) j)) n-is base-is
+-- the block of the atom numbered j, from 0
+pub block_is : (φ : PlanFile) {j b top number : ℕ} {A : Atom} → number ≡ suc j → Turn φ.nodes φ.edges φ.variables φ.atoms j b top A
+    → atom_line number ++ entries (block_row φ.nodes φ.edges b top A.from A.to A.variable) ≡ part φ (suc j)
+unfolding part
+block_is φ number-is t = ap₂ (λ k l. atom_line k ++ entries l) number-is (next_row t)

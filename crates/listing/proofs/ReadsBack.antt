@@ -9,9 +9,9 @@ use native.Mathlib.Omega.{arith}
 use lib.IntN.{ℤ}
 use lib.ListN.{length}
 use Rattle.plan.specs.Meaning.{Edge, Atom, PlanFile}
-use Rattle.plan.specs.Ranged.{LiteralFits, InRange, Ranged}
+use Rattle.plan.specs.Ranged.{InRange, Ranged}
 use Rattle.plan.specs.Written.{flat, atom_block, after, blocks, written, last_variable}
-use Rattle.encoding.proofs.Literals.{All, all_in, written_fits}
+use Rattle.encoding.proofs.Literals.{written_in_range}
 use Rattle.encoding.proofs.Sizes.{small}
 use Rattle.dimacs.specs.Words.{between, last, words}
 use Rattle.dimacs.specs.Reading.{Rule, Text, good, nothing, clauses, whole, read_text, literals_of}
@@ -58,9 +58,6 @@ module _ (end p v c : ℕ) (few : v ≤ 2147483647) (n : ℕ) (es : List Edge) w
       }
 
 module _ (φ : PlanFile) (r : Ranged φ) where
-  written_in_range : InRange (last_variable φ) (written φ)
-  written_in_range C m l k = all_in (LiteralFits (last_variable φ)) C l k (all_in (All (LiteralFits (last_variable φ))) (written φ) C m (written_fits φ r))
-
   pub text_reads : Reads (read_text (text φ)) 0 (last_variable φ) (length (written φ)) [] (written φ)
   unfolding read_text text front_text written literals_of
   text_reads =
@@ -73,8 +70,8 @@ module _ (φ : PlanFile) (r : Ranged φ) where
       let few : v ≤ 2147483647 = omega (arith, (small φ r).variables) in
       let short : c ≤ 2147483647 = omega (arith, (small φ r).clauses) in
       let Bs = blocks φ.nodes φ.edges φ.variables φ.atoms in
-      let q = clauses_read end 0 v c few φ.clauses (first_in φ.clauses Bs written_in_range) [] at behind-own in
-      let s = blocks_read end 0 v c few φ.nodes φ.edges φ.atoms 1 φ.variables (second_in φ.clauses Bs written_in_range) q.0 (at + length own) in
+      let q = clauses_read end 0 v c few φ.clauses (first_in φ.clauses Bs (written_in_range φ r)) [] at behind-own in
+      let s = blocks_read end 0 v c few φ.nodes φ.edges φ.atoms 1 φ.variables (second_in φ.clauses Bs (written_in_range φ r)) q.0 (at + length own) in
       record {
         of = q.0 ++ s.of;
         are = literals_append q.0 s.of ∙ (λ i. q.1 i ++ s.are i);

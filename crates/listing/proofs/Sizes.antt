@@ -9,12 +9,13 @@ use lib.ListN.{length, take, length-append}
 use Rattle.plan.specs.Meaning.{Edge, Atom, PlanFile, edge, atom}
 use Rattle.plan.specs.Ranged.{LiteralFits, Ranged}
 use Rattle.plan.specs.Written.{each, flat, levels, atom_block, written, last_variable}
+use Rattle.plan.proofs.ClauseTable.{flat_length}
 use Rattle.plan.proofs.Lists.{mem_at}
 use Rattle.encoding.specs.Counts.{most_block_numbers}
 use Rattle.encoding.proofs.Each.{each_most}
 use Rattle.encoding.proofs.Blocks.{last_ge}
 use Rattle.encoding.proofs.Literals.{All, Fit, block_fits, edge_ends}
-use Rattle.encoding.proofs.Sizes.{numbers_own, block_numbers_lem, levels_le, block_numbers_most, small}
+use Rattle.encoding.proofs.Sizes.{block_numbers_lem, levels_le, block_numbers_most, small}
 use Rattle.clauses.proofs.Stepping.{before, piece, before_next, before_le}
 use Rattle.dimacs.specs.Printing.{numeral, printed, divider, entry, entries, head_line, atom_line}
 use Rattle.dimacs.proofs.Digits.{power, digits_few, head_length, atom_length, entries_append, entries_length}
@@ -79,7 +80,7 @@ module _ (φ : PlanFile) (r : Ranged φ) where
       let v = last_variable φ in
       let c = length (written φ) in
       let own = flat φ.clauses in
-      omega (arith, length-append (head_line v c) (entries own), head_length v c, entries_length own, numbers_own φ.clauses, r.clauses, r.literals)
+      omega (arith, length-append (head_line v c) (entries own), head_length v c, entries_length own, flat_length φ.clauses, r.clauses, r.literals)
 
   module _ (j : ℕ) (l : j < length As) where
     abbrev base : ℕ

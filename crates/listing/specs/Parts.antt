@@ -1,15 +1,14 @@
 -- What the printers ask, and what they answer.
 -- Assumes nothing.
-use Rattle.std.specs.Prelude.{◌≡◌, List, ℕ, ◌+◌, ◌*◌, ◌≤◌, ◌<◌, length, ℤ}
+use Rattle.std.specs.Prelude.{◌≡◌, List, ℕ, ◌+◌, ◌*◌, ◌≤◌, ◌<◌, length, ℤ, Result, Ok, Err}
 use Rattle.plan.specs.Buffers.{Kept, Wrote}
 use Rattle.plan.specs.Meaning.{Edge, PlanFile, edge}
 use Rattle.plan.specs.Ranged.{max_nodes}
-use Rattle.clauses.specs.Rows.{Low, LowBlock, level_row}
+use Rattle.clauses.specs.Rows.{Low, level_row}
 use Rattle.clauses.specs.declared.block.Level.{Level}
 use Rattle.dimacs.specs.Printing.{Near}
 use Rattle.listing.specs.Text.{text}
-use Rattle.listing.specs.declared.Printing.{Printing}
-use Rattle.listing.specs.declared.Printing.TheVariants.{Printed, Short}
+use Rattle.plan.specs.declared.refusal.Short.{Short}
 
 -- A place from which on a part can be counted, and all the parts behind it.
 abbrev pub Soon : ℕ → Type 0
@@ -25,10 +24,9 @@ pub record LevelFits (es : List Edge) (n : ℕ) (v : Level) : Type 0 where
   pub nodes : n ≤ max_nodes
   pub few : length (level_row es n v) ≤ 3968
 
--- The numbers of a block's levels are low, and every edge runs into a node, so that a level has 14 numbers for each edge and 6 for each node.
-pub record LevelsFit (es : List Edge) (n base top : ℕ) : Type 0 where
-  pub low : LowBlock es n base top
-  pub to_in : (k : ℕ) → k < length es → (edge es k).to < n
+-- Every edge runs into a node, so that a level has 14 numbers for each edge and 6 for each node.
+abbrev pub EndsIn : List Edge → ℕ → Type 0
+EndsIn es n = (k : ℕ) → k < length es → (edge es k).to < n
 
 -- The text is printed, or the buffer is too short for it.
 pub record PrintedOut (φ : PlanFile) (before after : List ℕ) (bytes : ℕ) : Type 0 where
@@ -41,6 +39,6 @@ pub record TooShort (φ : PlanFile) (before after : List ℕ) (needed : ℕ) : T
   pub room : length before < needed
   pub kept : Kept before after
 
-abbrev pub Prints : PlanFile → List ℕ → List ℕ → Printing → Type 0
-Prints φ before after (Printed bytes) = PrintedOut φ before after bytes
-Prints φ before after (Short needed) = TooShort φ before after needed
+abbrev pub Prints : PlanFile → List ℕ → List ℕ → Result ℕ Short → Type 0
+Prints φ before after (Ok bytes) = PrintedOut φ before after bytes
+Prints φ before after (Err short) = TooShort φ before after short.0

@@ -5,137 +5,109 @@
 mod block;
 
 ghost use Rattle.std.specs.Prelude.{◌≡◌, suc, ◌≤◌, ◌<◌, length, take};
+ghost use Rattle.plan.specs.File.{file_of};
 ghost use Rattle.plan.specs.Front.{Laid};
-ghost use Rattle.plan.specs.Tables.{edges_of, atoms_of, plan_of, Lent};
+ghost use Rattle.plan.specs.Tables.{atoms_of};
 ghost use Rattle.plan.specs.Written.{last};
-ghost use Rattle.clauses.specs.Rows.{LowBlocks};
+ghost use Rattle.dimacs.specs.Printers.{Lays};
 ghost use Rattle.listing.specs.Text.{text, part};
 ghost use Rattle.listing.specs.Parts.{Soon, Prints};
 
 use block::print_block;
-use clauses::{atom_count, block_variables, counts_of, edge_count, levels_of};
-use dimacs::{print_head, print_table};
-use plan::{Plan, atom_at, wide};
-
-// What printing answers: the bytes that were printed, or the length that the buffer lacks.
-#[derive(Clone, Copy)]
-pub enum Printing {
-    Printed(usize),
-    Short(usize),
-}
+use clauses::{Shape, block_variables, counts_of, levels_of};
+use dimacs::Printer;
+use plan::{Short, Tables};
 
 // The longest part: 9 bytes for each number of the largest block, and its first line.
 pub const PART: usize = 2251136;
 
 // The last variable before the block of the atom numbered k, from 0.
-fn last_before(edges: &[u16], atoms: &[u16], nodes: usize, base: usize, k: usize) -> usize
-    requires low_blocks { LowBlocks (edges_of edges.now) nodes base (atoms_of atoms.now) }
-    requires k_in_bounds { k ≤ length (atoms_of atoms.now) }
-    ensures { result ≡ last nodes (edges_of edges.now) base (take k (atoms_of atoms.now)) }
+fn last_before(tables: &Tables, k: usize) -> usize
+    requires { k ≤ length (atoms_of tables.now.atoms.now) }
+    ensures { let φ = file_of tables.now in result ≡ last φ.nodes φ.edges φ.variables (take k φ.atoms) }
 {
-    let edge_number = edge_count(edges);
-    let mut last = base;
-    let mut j = 0;
-    while j < k {
-        let atom = atom_at(atoms, j);
-        let top = levels_of(nodes, atom);
-        last += block_variables(nodes, edge_number, top);
-        j += 1;
+    let nodes = usize::from(tables.plan.nodes);
+    let edges = tables.edges.len();
+    let mut last = usize::from(tables.plan.variables);
+    for atom in &tables.atoms[..k] {
+        let top = levels_of(nodes, *atom);
+        last += block_variables(nodes, edges, top);
     }
     last
 }
 
 // The `p cnf` line and the file's own clauses.
-fn print_front(
-    out: &mut [u8],
-    at: usize,
-    plan: Plan,
-    edges: &[u16],
-    atoms: &[u16],
-    clauses: &[i16],
-) -> usize
-    requires lent { Lent plan edges.now atoms.now clauses.now }
-    requires soon { Soon at }
-    ensures { Laid (part (plan_of plan edges.now atoms.now clauses.now) 0) at out.old out.new result }
+fn print_front(printer: &mut Printer, tables: &Tables)
+    requires { Soon printer.old.at }
+    ensures { Lays (part (file_of tables.now) 0) printer.old printer.new }
 {
-    let counts = counts_of(plan, edges, atoms, clauses);
-    let next = print_head(out, at, counts.variables as u32, counts.clauses as u32);
-    print_table(out, next, clauses)
+    let counts = counts_of(tables);
+    printer.head(counts.variables as u32, counts.clauses as u32);
+    printer.numbers(tables.clauses);
 }
 
 // The block of the atom numbered j, from 0, with its first line.
-fn print_atom(
-    out: &mut [u8],
-    at: usize,
-    plan: Plan,
-    edges: &[u16],
-    atoms: &[u16],
-    clauses: &[i16],
-    j: usize,
-) -> usize
-    requires lent { Lent plan edges.now atoms.now clauses.now }
-    requires j_in_bounds { j < length (atoms_of atoms.now) }
-    requires soon { Soon at }
-    ensures { Laid (part (plan_of plan edges.now atoms.now clauses.now) (suc j)) at out.old out.new result }
+fn print_atom(printer: &mut Printer, tables: &Tables, j: usize)
+    requires j_in_bounds { j < length (atoms_of tables.now.atoms.now) }
+    requires soon { Soon printer.old.at }
+    ensures { Lays (part (file_of tables.now) (suc j)) printer.old printer.new }
 {
-    let nodes = wide(plan.nodes);
-    let base = last_before(edges, atoms, nodes, wide(plan.variables), j);
-    let atom = atom_at(atoms, j);
+    let nodes = usize::from(tables.plan.nodes);
+    let base = last_before(tables, j);
+    let atom = tables.atoms[j];
     let top = levels_of(nodes, atom);
-    print_block(out, at, edges, nodes, base, top, atom, j as u32 + 1)
+    let shape = Shape {
+        edges: tables.edges,
+        nodes,
+        base,
+        top,
+    };
+    print_block(printer, &shape, atom, j as u32 + 1);
 }
 
-// One part of the text: the front, or the block of the atom of that number, from 1.
-pub fn print_part(
-    out: &mut [u8],
-    at: usize,
-    plan: Plan,
-    edges: &[u16],
-    atoms: &[u16],
-    clauses: &[i16],
-    k: usize,
-) -> usize
-    requires lent { Lent plan edges.now atoms.now clauses.now }
-    requires k_in_bounds { k ≤ length (atoms_of atoms.now) }
-    requires soon { Soon at }
-    ensures { Laid (part (plan_of plan edges.now atoms.now clauses.now) k) at out.old out.new result }
+// Part k of the text: the front, or the block of the atom of that number, from 1.
+fn print_kth(printer: &mut Printer, tables: &Tables, k: usize)
+    requires k_in_bounds { k ≤ length (atoms_of tables.now.atoms.now) }
+    requires soon { Soon printer.old.at }
+    ensures { Lays (part (file_of tables.now) k) printer.old printer.new }
 {
     if k == 0 {
-        return print_front(out, at, plan, edges, atoms, clauses);
+        print_front(printer, tables);
+    } else {
+        print_atom(printer, tables, k - 1);
     }
-    print_atom(out, at, plan, edges, atoms, clauses, k - 1)
+}
+
+// One part of the text, from the place `at` on, as far as there is room; hands back the place behind what it printed or would have printed.
+pub fn print_part(out: &mut [u8], at: usize, tables: &Tables, k: usize) -> usize
+    requires k_in_bounds { k ≤ length (atoms_of tables.now.atoms.now) }
+    requires soon { Soon at }
+    ensures { Laid (part (file_of tables.now) k) at out.old out.new result }
+{
+    let mut printer = Printer { out, at };
+    print_kth(&mut printer, tables, k);
+    printer.at
 }
 
 // The whole text, as far as there is room; hands back its length.
-fn print_text(out: &mut [u8], plan: Plan, edges: &[u16], atoms: &[u16], clauses: &[i16]) -> usize
-    requires { Lent plan edges.now atoms.now clauses.now }
-    ensures { Laid (text (plan_of plan edges.now atoms.now clauses.now)) 0 out.old out.new result }
+fn print_text(out: &mut [u8], tables: &Tables) -> usize
+    ensures { Laid (text (file_of tables.now)) 0 out.old out.new result }
 {
-    let atom_number = atom_count(atoms);
-    let mut end = 0;
-    let mut k = 0;
-    while k <= atom_number {
-        end = print_part(out, end, plan, edges, atoms, clauses, k);
-        k += 1;
+    let mut printer = Printer { out, at: 0 };
+    for k in 0..=tables.atoms.len() {
+        print_kth(&mut printer, tables, k);
     }
-    end
+    printer.at
 }
 
 // The file as text at the front of `out`, or, where that is too short, the length needed and `out` as it was.
-pub fn write_text(
-    plan: Plan,
-    edges: &[u16],
-    atoms: &[u16],
-    clauses: &[i16],
-    out: &mut [u8],
-) -> Printing
-    requires { Lent plan edges.now atoms.now clauses.now }
-    ensures { Prints (plan_of plan edges.now atoms.now clauses.now) out.old out.new result }
+pub fn write_text(tables: &Tables, out: &mut [u8]) -> Result<usize, Short>
+    ensures { Prints (file_of tables.now) out.old out.new result }
 {
-    let needed = print_text(&mut out[..0], plan, edges, atoms, clauses);
+    let needed = print_text(&mut [], tables);
     if out.len() < needed {
-        return Printing::Short(needed);
+        return Err(Short(needed));
     }
-    print_text(out, plan, edges, atoms, clauses);
-    Printing::Printed(needed)
+    print_text(out, tables);
+    Ok(needed)
 }

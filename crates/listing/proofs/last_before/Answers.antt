@@ -1,63 +1,50 @@
 -- The last variable before a block: that of the blocks before it, atom by atom.
-use mathlib.Core.Path.{◌≡◌, refl, ap, ◌∙◌}
-use mathlib.Core.List.{List}
-use Prim.Native.Nat.{ℕ, ◌+◌}
+use mathlib.Core.Path.{◌≡◌, sym, ap, ap₂, ◌∙◌}
+use Prim.Native.Nat.{◌+◌, ◌<◌}
 use native.Mathlib.Omega.{arith}
-use lib.ListN.{length}
-use Rattle.plan.specs.Meaning.{Edge, Atom}
-use Rattle.plan.specs.Tables.{edges_of, atoms_of, atom_of}
+use lib.ListN.{length-take}
+use Rattle.std.proofs.Common.{get_or-take}
 use Rattle.plan.specs.Written.{block_variables, last}
-use Rattle.clauses.proofs.Stepping.{before, Turn, next_before, next_last, next_limits}
-use Rattle.clauses.proofs.Tabled.{atom_place}
+use Rattle.plan.proofs.ByPlace.{edges_length, atoms_length}
+use Rattle.clauses.proofs.Stepping.{next_before, next_last, next_limits}
+use Rattle.clauses.proofs.Whole.{turn_of}
 use Rattle.listing.proofs.last_before.Goals as goal
 
--- an atom and its levels
-module _ (c : goal.After-levels_of-top) where
-  abbrev nodes : ℕ
-  nodes = c.args.nodes
+pub slice_bounds-atom-items-end : goal.slice_bounds-atom-items-end
+slice_bounds-atom-items-end c = omega (arith, length-take c.args.k c.args.tables.now.atoms.now, atoms_length c.args.tables.now.atoms.now)
 
-  abbrev es : List Edge
-  es = edges_of c.args.edges.now
-
-  abbrev As : List Atom
-  As = atoms_of c.args.atoms.now
-
-  step : Turn nodes es c.args.base As c.loop-j.j c.loop-j.last c.levels_of-top.result (atom_of c.atom_at-atom.result)
-  step =
-      record {
-        low = c.requires.low_blocks;
-        inside = omega arith;
-        at = c.loop-j.invariant.1;
-        is = c.atom_at-atom.ensures;
-        levels_is = c.levels_of-top.ensures;
-      }
-
-pub loop-j-init : goal.loop-j-init
+pub loop-atom-init : goal.loop-atom-init
 unfolding last
-loop-j-init c = (omega arith, refl)
-
-pub atom_at-atom-requires : goal.atom_at-atom-requires
-atom_at-atom-requires c = atom_place c.args.atoms.now c.loop-j.j (omega arith)
+loop-atom-init c = c.from-last.ensures
 
 pub block_variables-last-requires : goal.block_variables-last-requires
-block_variables-last-requires c = rw c.edge_count-edge_number.ensures (next_limits (step c))
-
--- its variables are counted
-module _ (c : goal.After-block_variables-last) where
-  variables : c.block_variables-last.result ≡ block_variables c.args.nodes (length (edges_of c.args.edges.now)) c.levels_of-top.result
-  variables = c.block_variables-last.ensures ∙ ap (λ m. block_variables c.args.nodes m c.levels_of-top.result) c.edge_count-edge_number.ensures
-
-pub loop-j-preserved : goal.loop-j-preserved
-loop-j-preserved c =
-    let step : Turn c.args.nodes (edges_of c.args.edges.now) c.args.base (atoms_of c.args.atoms.now) c.loop-j.j c.loop-j.last c.levels_of-top.result (atom_of c.atom_at-atom.result) = record { low = c.requires.low_blocks; inside = omega arith; at = c.loop-j.invariant.1; is = c.atom_at-atom.ensures; levels_is = c.levels_of-top.ensures } in
-    (omega arith, ap (λ v. c.loop-j.last + v) (variables c) ∙ next_before step)
-
-pub returns : goal.returns
-returns c =
-    let e : c.loop-j.j ≡ c.args.k = omega arith in
-    c.loop-j.invariant.1 ∙ ap (before c.args.nodes (edges_of c.args.edges.now) c.args.base (atoms_of c.args.atoms.now)) e
+block_variables-last-requires c =
+    let t = c.args.tables.now in
+    let inside : c.loop-atom.atom-index < c.args.k = omega (arith, length-take c.args.k t.atoms.now) in
+    let levels = rw get_or-take at c.levels_of-top.ensures in
+    let turn = turn_of t.lent c.from-nodes.ensures (omega (arith, atoms_length t.atoms.now)) c.loop-atom.invariant levels in
+    rw (c.from-nodes.ensures, ← edges_length t.edges.now) (next_limits turn)
 
 pub overflow_add-last : goal.overflow_add-last
 overflow_add-last c =
-    let step : Turn c.args.nodes (edges_of c.args.edges.now) c.args.base (atoms_of c.args.atoms.now) c.loop-j.j c.loop-j.last c.levels_of-top.result (atom_of c.atom_at-atom.result) = record { low = c.requires.low_blocks; inside = omega arith; at = c.loop-j.invariant.1; is = c.atom_at-atom.ensures; levels_is = c.levels_of-top.ensures } in
-    omega (arith, next_last step, variables c)
+    let t = c.args.tables.now in
+    let inside : c.loop-atom.atom-index < c.args.k = omega (arith, length-take c.args.k t.atoms.now) in
+    let levels = rw get_or-take at c.levels_of-top.ensures in
+    let turn = turn_of t.lent c.from-nodes.ensures (omega (arith, atoms_length t.atoms.now)) c.loop-atom.invariant levels in
+    let variables = c.block_variables-last.ensures ∙ ap₂ (λ n m. block_variables n m c.levels_of-top.result) c.from-nodes.ensures (sym (edges_length t.edges.now)) in
+    omega (arith, next_last turn, variables)
+
+pub loop-atom-preserved : goal.loop-atom-preserved
+loop-atom-preserved c =
+    let t = c.args.tables.now in
+    let inside : c.loop-atom.atom-index < c.args.k = omega (arith, length-take c.args.k t.atoms.now) in
+    let levels = rw get_or-take at c.levels_of-top.ensures in
+    let turn = turn_of t.lent c.from-nodes.ensures (omega (arith, atoms_length t.atoms.now)) c.loop-atom.invariant levels in
+    let variables = c.block_variables-last.ensures ∙ ap₂ (λ n m. block_variables n m c.levels_of-top.result) c.from-nodes.ensures (sym (edges_length t.edges.now)) in
+    ap (λ v. c.loop-atom.last + v) variables ∙ next_before turn
+
+pub returns : goal.returns
+returns c =
+    let atoms = c.args.tables.now.atoms.now in
+    let e : c.loop-atom.atom-index ≡ c.args.k = omega (arith, length-take c.args.k atoms, atoms_length atoms) in
+    rw e at c.loop-atom.invariant

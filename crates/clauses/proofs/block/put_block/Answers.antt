@@ -1,73 +1,26 @@
 -- The start, the levels and the end, with the numbers as the code reads and adds them.
-use mathlib.Core.Path.{◌≡◌, sym, subst}
-use mathlib.Core.List.{List, ◌++◌}
-use Prim.Native.Nat.{ℕ, ◌+◌, ◌*◌}
-use native.Mathlib.Omega.{arith}
-use lib.IntN.{ℤ}
-use lib.ListN.{length}
-use Rattle.plan.specs.Meaning.{Edge}
-use Rattle.plan.specs.Tables.{edges_of}
-use Rattle.clauses.specs.Rows.{Early, start_row, levels_row, end_row, block_row, LowBlock}
-use Rattle.plan.proofs.Fronts.{room_first, room_rest, room_as, put_as, put_then}
+use borrow.Author.Rules.{rules}
+use Rattle.clauses.specs.Rows.{block_row}
+use Rattle.plan.proofs.Fronts.{room_first}
+use Rattle.clauses.proofs.Appending.{appends_then, room_behind, put_ends}
 use Rattle.clauses.proofs.block.put_block.Goals as goal
 
--- the atom's numbers and the count of the edges are read
-module _ (n : ℕ) (es : List Edge) (base top : ℕ) where
-  -- the block with so many edges, from s to t with the atom's variable a
-  abbrev row_of : ℕ → ℕ → ℕ → ℕ → List ℤ
-  row_of m s t a = (start_row n s (base + 1) ++ levels_row es n base top) ++ end_row a (base + 1 + top * (n + m) + t)
+pub put_start-requires-clause-room : goal.put_start-requires-clause-room
+unfolding block_row
+put_start-requires-clause-room c = rw c.from-2.ensures (room_first _ _ (room_first _ _ c.requires))
 
-  row_is : {m s t a from to variable : ℕ} → m ≡ length es → s ≡ from → t ≡ to → a ≡ variable → row_of m s t a ≡ block_row n es base top from to variable
-  unfolding block_row
-  row_is m-is s-is t-is a-is = λ i. row_of (m-is i) (s-is i) (t-is i) (a-is i)
+pub put_levels-requires : goal.put_levels-requires
+unfolding block_row
+put_levels-requires c = room_behind _ _ (room_first _ _ c.requires) (rw c.from-2.ensures at c.put_start.ensures)
 
-  low : {m : ℕ} → m ≡ length es → LowBlock es n base top → Early (base + 1 + top * (n + m))
-  low m-is block = subst (λ k. Early (base + 1 + top * (n + k))) (sym m-is) block.last
-
-pub put_start-at-requires : goal.put_start-at-requires
-put_start-at-requires c =
-    let x = c.args in
-    let row = row_is x.nodes (edges_of x.edges.now) x.base x.top c.edge_count.ensures c.wide-source.ensures c.wide-target.ensures c.wide-variable.ensures in
-    record {
-      room = room_first _ _ (room_first _ _ (room_as (sym row) c.requires.room));
-      nodes_le_max_nodes = omega arith;
-    }
-
-pub put_levels-at-requires : goal.put_levels-at-requires
-put_levels-at-requires c =
-    let x = c.args in
-    let row = row_is x.nodes (edges_of x.edges.now) x.base x.top c.edge_count.ensures c.wide-source.ensures c.wide-target.ensures c.wide-variable.ensures in
-    record {
-      room = room_rest _ _ (room_first _ _ (room_as (sym row) c.requires.room)) c.put_start-at.ensures;
-      low_block = c.requires.low_block;
-    }
-
-pub put_end-requires : goal.put_end-requires
-put_end-requires c =
-    let x = c.args in
-    let row = row_is x.nodes (edges_of x.edges.now) x.base x.top c.edge_count.ensures c.wide-source.ensures c.wide-target.ensures c.wide-variable.ensures in
-    record {
-      room = room_rest _ _ (room_as (sym row) c.requires.room) (put_then c.put_start-at.ensures c.put_levels-at.ensures);
-      fits = omega (arith, low x.nodes (edges_of x.edges.now) x.base x.top c.edge_count.ensures c.requires.low_block);
-    }
+pub put_end-requires-clause-room : goal.put_end-requires-clause-room
+unfolding block_row
+put_end-requires-clause-room c =
+    rw (c.from-3.ensures, c.from.ensures, c.first.ensures) (room_behind _ _ c.requires (appends_then (rw c.from-2.ensures at c.put_start.ensures) c.put_levels.ensures))
 
 pub returns : goal.returns
+unfolding block_row
 returns c =
-    let x = c.args in
-    let row = row_is x.nodes (edges_of x.edges.now) x.base x.top c.edge_count.ensures c.wide-source.ensures c.wide-target.ensures c.wide-variable.ensures in
-    put_as row (put_then (put_then c.put_start-at.ensures c.put_levels-at.ensures) c.put_end.ensures)
-
-pub overflow_mul-top : goal.overflow_mul-top
-overflow_mul-top c =
-    let x = c.args in
-    omega (arith, low x.nodes (edges_of x.edges.now) x.base x.top c.edge_count.ensures c.requires.low_block)
-
-pub overflow_add-base-3 : goal.overflow_add-base-3
-overflow_add-base-3 c =
-    let x = c.args in
-    omega (arith, low x.nodes (edges_of x.edges.now) x.base x.top c.edge_count.ensures c.requires.low_block)
-
-pub overflow_add-base-4 : goal.overflow_add-base-4
-overflow_add-base-4 c =
-    let x = c.args in
-    omega (arith, low x.nodes (edges_of x.edges.now) x.base x.top c.edge_count.ensures c.requires.low_block)
+    let row = rw (c.from-3.ensures, c.from.ensures, c.first.ensures) at c.put_end.ensures in
+    let all = appends_then (appends_then (rw c.from-2.ensures at c.put_start.ensures) c.put_levels.ensures) row in
+    put_ends all (search rules)

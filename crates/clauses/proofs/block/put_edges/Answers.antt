@@ -1,24 +1,20 @@
--- The clauses of the edges, one behind the other.
+-- The rows of the edges, one behind the other.
+use Prim.Native.Nat.{◌+◌}
 use native.Mathlib.Omega.{arith}
-use Rattle.clauses.specs.Rows.{edges_row}
-use Rattle.plan.proofs.Filling.{filling_start, filling_room, filling_turn, filling_end}
+use Rattle.clauses.specs.Rows.{edge_row, edges_row}
+use Rattle.clauses.proofs.Appending.{appending_start, edges_room, edges_turn, edges_end}
 use Rattle.clauses.proofs.block.put_edges.Goals as goal
 
 pub loop-k-init : goal.loop-k-init
 unfolding edges_row
-loop-k-init c = filling_start c.requires.room
+loop-k-init c = appending_start c.requires.room
 
-pub put_edge-end-requires : goal.put_edge-end-requires
-unfolding edges_row
-put_edge-end-requires c = record {
-  room = filling_room c.loop-k.invariant (omega arith);
-  k_in_bounds = omega arith;
-}
+pub put_edge-requires-clause-room : goal.put_edge-requires-clause-room
+put_edge-requires-clause-room c = let a = c.args in edges_room a.edges.now (λ e k. edge_row e (a.level.edges + k) a.level.nodes) c.loop-k.invariant (omega arith)
 
 pub loop-k-preserved : goal.loop-k-preserved
-unfolding edges_row
-loop-k-preserved c = filling_turn c.loop-k.invariant (omega arith) c.put_edge-end.ensures
+loop-k-preserved c = let a = c.args in edges_turn a.edges.now (λ e k. edge_row e (a.level.edges + k) a.level.nodes) c.loop-k.invariant (omega arith) c.put_edge.ensures
 
 pub returns : goal.returns
 unfolding edges_row
-returns c = filling_end c.loop-k.invariant (omega arith)
+returns c = let a = c.args in edges_end a.edges.now (λ e k. edge_row e (a.level.edges + k) a.level.nodes) c.loop-k.invariant (omega arith)

@@ -1,25 +1,27 @@
 -- `head::counts_at` reads the two numbers, and then the line has to end.
 use mathlib.Core.Path.{◌∙◌}
 use lib.ListN.{length}
+use Rattle.std.proofs.lemmas.Result.{err_from_is_err_and}
 use Rattle.dimacs.specs.Reading.{behind, count, variables}
-use Rattle.dimacs.proofs.ProblemLine.{is_count, is_bad_count}
 use Rattle.dimacs.proofs.head.counts_at.Goals as goal
 
-pub returns-in-Bad : goal.returns-in-Bad
+pub returns-in_err-variables : goal.returns-in_err-variables
 unfolding variables
-returns-in-Bad c = is_bad_count _ _ c.count_at-variables.ensures c.in-Bad.is _
+returns-in_err-variables c =
+    let p = err_from_is_err_and c.from_residual.result c.from_residual.ensures.1 in
+    rw (p.1, p.2) (c.in_err-variables.ensures _)
 
-pub returns-in-Bad-count : goal.returns-in-Bad-count
+pub returns-in_err-count : goal.returns-in_err-count
 unfolding variables count
-returns-in-Bad-count c =
-    (is_count _ _ c.count_at-variables.ensures c.in-Is.is).1 _
-    ∙ is_bad_count _ _ c.count_at-count.ensures c.in-Bad-count.is _
+returns-in_err-count c =
+    let p = err_from_is_err_and c.from_residual-in_err-count.result c.from_residual-in_err-count.ensures.1 in
+    rw (p.1, p.2) (c.in_ok-variables.ensures.1 _ ∙ c.in_err-count.ensures _)
 
-pub returns-in-Is-count : goal.returns-in-Is-count
+pub returns : goal.returns
 unfolding variables count
-returns-in-Is-count c =
+returns c =
     rw (
-      (is_count _ _ c.count_at-variables.ensures c.in-Is.is).1 (λ n rest. count (length c.args.text.now) c.args.at n rest),
-      (is_count _ _ c.count_at-count.ensures c.in-Is-count.is).1 (λ n rest. behind (length c.args.text.now) c.args.at c.in-Is.most n rest),
+      c.in_ok-variables.ensures.1 (λ n rest. count (length c.args.text.now) c.args.at n rest),
+      c.in_ok-count.ensures.1 (λ n rest. behind (length c.args.text.now) c.args.at c.in_ok-variables.variables n rest),
     )
     c.ended.ensures

@@ -1,35 +1,34 @@
--- `dimacs::numbers::magnitude`: in the loop, the digits passed make the value, which is not too much yet, and what is left decides as the whole does.
+-- `dimacs::numbers::magnitude`: each byte is a digit, and the value is not too much, or there is no number.
 use mathlib.Core.Path.{sym, ◌∙◌}
 use native.Mathlib.Omega.{arith}
-use Rattle.dimacs.proofs.Values.{digit_range, no_digits, some_digits, next_digit, no_digit, too_much, all_read}
+use borrow.Author.Tests.{eqb-true, eqb-false}
+use Rattle.dimacs.proofs.Values.{ascii_digit, no_digits, some_digits, next_digit, no_digit, too_much, all_read}
 use Rattle.dimacs.proofs.numbers.magnitude.Goals as goal
 
-pub returns-then-from-word : goal.returns-then-from-word
-returns-then-from-word c = let a = c.args in no_digits a.most a.word.now a.from (omega arith)
+pub returns-then-is_empty : goal.returns-then-is_empty
+returns-then-is_empty c = no_digits _ _ (eqb-true _ 0 (sym c.is_empty.ensures ∙ c.if-is_empty.true))
 
-pub loop-at-init : goal.loop-at-init
-loop-at-init c = let a = c.args in (omega arith, omega arith, some_digits a.most a.word.now a.from (omega arith))
+pub loop-byte-init : goal.loop-byte-init
+loop-byte-init c = (omega arith, some_digits _ _ (eqb-false _ 0 (sym c.is_empty.ensures ∙ c.if-is_empty.false)))
 
-pub returns-then-not-is_digit : goal.returns-then-not-is_digit
-returns-then-not-is_digit c = c.loop-at.invariant.2 ∙ no_digit _ _ _ _ c.loop-at-test.true (sym c.is_digit.ensures ∙ c.if-not-is_digit.true)
+pub returns-then-not-is_ascii_digit : goal.returns-then-not-is_ascii_digit
+returns-then-not-is_ascii_digit c =
+    c.loop-byte.invariant.1
+    ∙ no_digit _ _ _ _ c.loop-byte-test.true (sym (c.is_ascii_digit.ensures.value ∙ ascii_digit _) ∙ c.if-not-is_ascii_digit.true)
 
-pub overflow_sub-value : goal.overflow_sub-value
-overflow_sub-value c = (digit_range _ (sym c.is_digit.ensures ∙ c.if-not-is_digit.false)).0
+pub returns-then-value-from : goal.returns-then-value-from
+returns-then-value-from c =
+    c.loop-byte.invariant.1
+    ∙ next_digit _ _ _ _ c.loop-byte-test.true (sym (c.is_ascii_digit.ensures.value ∙ ascii_digit _) ∙ c.if-not-is_ascii_digit.false)
+    ∙ too_much _ _ _ (omega (arith, c.if-value-from.true, c.from.ensures, c.from-in-loop-byte.ensures))
 
-pub returns-then-value-most : goal.returns-then-value-most
-returns-then-value-most c =
-    c.loop-at.invariant.2
-    ∙ next_digit _ _ _ _ c.loop-at-test.true (sym c.is_digit.ensures ∙ c.if-not-is_digit.false)
-    ∙ too_much _ _ _ c.if-value-most.true
-
-pub loop-at-preserved : goal.loop-at-preserved
-loop-at-preserved c = (
-  omega arith,
-  c.if-value-most.false,
-  c.loop-at.invariant.2 ∙ next_digit _ _ _ _ c.loop-at-test.true (sym c.is_digit.ensures ∙ c.if-not-is_digit.false),
+pub loop-byte-preserved : goal.loop-byte-preserved
+loop-byte-preserved c = (
+  omega (arith, c.if-value-from.false, c.from-in-loop-byte.ensures),
+  rw c.from.ensures (
+      c.loop-byte.invariant.1
+      ∙ next_digit _ _ _ _ c.loop-byte-test.true (sym (c.is_ascii_digit.ensures.value ∙ ascii_digit _) ∙ c.if-not-is_ascii_digit.false)),
 )
 
 pub returns : goal.returns
-returns c =
-    let l = c.loop-at in
-    l.invariant.2 ∙ all_read _ l.value c.args.word.now l.at (omega arith) l.invariant.1
+returns c = c.loop-byte.invariant.1 ∙ all_read _ _ c.args.digits.now c.loop-byte.byte-index (omega arith) c.loop-byte.invariant.0
