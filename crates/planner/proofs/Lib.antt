@@ -1,6 +1,6 @@
 pub mod Unique
 pub mod Stating
-pub mod Shell
+pub mod Outcomes
 pub mod Demand2
 pub mod Demand3
 pub mod Ruling

@@ -9,20 +9,21 @@ use mathlib.Core.Option.{some}
 use Prim.Native.Nat.{ℕ, suc, ◌+◌, ◌-◌, ◌*◌, ◌/◌, ◌^◌, ◌≤◌, ◌<◌}
 use lib.IntN.{ℤ, pos}
 use lib.ListN.{length, take}
+use Rattle.std.specs.Prelude.{Result, Ok}
 use Rattle.plan.specs.Meaning.{Edge, Graph, PlanFile, Atom, Cost, Walk, Distance, cost_of, IsTrue, Full, HasTrue, IsRight, IsPlan}
 use Rattle.plan.specs.Ranged.{max_clauses, InRange, Ranged}
 use Rattle.plan.specs.Reason.{holds, fails, ReasonIs, Decides}
 use Rattle.plan.specs.Search.{opens, Closes, Outcome, Tree, Before}
 use Rattle.plan.specs.Tables.{clauses_of}
 use Rattle.plan.specs.Written.{each, flat, blocks, written, last_variable, Satisfies, ExactlyOne}
-use Rattle.plan.specs.declared.Refusal.{Refusal}
+use Rattle.plan.specs.declared.Plan as counted
+use Rattle.plan.specs.declared.refusal.Refusal.{Refusal}
 use Rattle.plan.proofs.Cases as cases
 use Rattle.plan.proofs.Reason as reasons
 use Rattle.encoding.specs.Counts.{Counted}
 use Rattle.encoding.proofs.Sizes as sizes
 use Rattle.encoding.proofs.Sample as sample
 use Rattle.reader.specs.Format.{refuse, next, refused, accepted, tag_at, len_at, fits, add_clause, with_clauses, step_at, read_plan}
-use Rattle.reader.specs.declared.ReadAnswer.{ReadAnswer}
 use Rattle.reader.proofs.Accepts as accepts
 use Rattle.reader.proofs.EmptyClause as empty-records
 use Rattle.reader.proofs.Sample as files
@@ -35,19 +36,15 @@ use Rattle.dimacs.proofs.LoneZero as zeros
 use Rattle.dimacs.proofs.ReadBack as back
 use Rattle.listing.specs.Text.{block_texts, text, part}
 use Rattle.listing.proofs.Parts as parts
-use Rattle.planner.specs.declared.JudgeAnswer.{JudgeAnswer}
-use Rattle.planner.specs.declared.JudgeAnswer.TheVariants.{Clause}
+use Rattle.judge.specs.declared.Judgement.{Judgement}
+use Rattle.judge.specs.declared.Judgement.TheVariants.{Clause}
+use Rattle.reason.specs.declared.Answer.{Answer}
+use Rattle.search.specs.declared.Found.{Found}
+use Rattle.search.specs.declared.Found.TheVariants.{Plan, Impossible, Undecided}
+use Rattle.clauses.specs.declared.Counts.{Counts}
+use Rattle.dimacs.specs.declared.Rules.{Rules}
 use Rattle.planner.specs.declared.CloseAnswer.{CloseAnswer}
 use Rattle.planner.specs.declared.CloseAnswer.TheVariants.{Clash}
-use Rattle.planner.specs.declared.ReasonAnswer.{ReasonAnswer}
-use Rattle.planner.specs.declared.SearchAnswer.{SearchAnswer}
-use Rattle.planner.specs.declared.SearchAnswer.TheVariants.{Plan, Impossible, Undecided}
-use Rattle.planner.specs.declared.WriteAnswer.{WriteAnswer}
-use Rattle.planner.specs.declared.WriteAnswer.TheVariants.{Written}
-use Rattle.planner.specs.declared.WriteDimacsAnswer.{WriteDimacsAnswer}
-use Rattle.planner.specs.declared.WriteDimacsAnswer.TheVariants.{Printed}
-use Rattle.planner.specs.declared.ReadDimacsAnswer.{ReadDimacsAnswer}
-use Rattle.planner.specs.declared.ReadDimacsAnswer.TheVariants.{Rules}
 use Rattle.planner.specs.Refusing.{refusal, clear, Refuses, KeepingBy}
 use Rattle.planner.specs.Read.{ReadIs}
 use Rattle.planner.specs.Judge.{judge_checks, JudgeIs}
@@ -71,33 +68,33 @@ refusal_keeps h = h.case
 
 -- "Each public call's statement determines answer, count and every byte of lent memory
 -- for all inputs, refused ones too; that no second answer fits it is shown."
-pub read_unique : (file : List ℕ) (r s : ReadAnswer) → ReadIs file r → ReadIs file s → r ≡ s
+pub read_unique : (file : List ℕ) (r s : Result counted.Plan Refusal) → ReadIs file r → ReadIs file s → r ≡ s
 read_unique = one.read_unique
 
-pub judge_unique : (file : List ℕ) (assignment : List ℤ) (r s : JudgeAnswer) → JudgeIs file assignment r → JudgeIs file assignment s → r ≡ s
+pub judge_unique : (file : List ℕ) (assignment : List ℤ) (r s : Result Judgement Refusal) → JudgeIs file assignment r → JudgeIs file assignment s → r ≡ s
 judge_unique = one.judge_unique
 
-pub close_unique : (file : List ℕ) (given before after after' : List ℤ) (r s : CloseAnswer)
+pub close_unique : (file : List ℕ) (given before after after' : List ℤ) (r s : Result CloseAnswer Refusal)
     → ClosedIs file given before after r → ClosedIs file given before after' s → (r ≡ s) × (after ≡ after')
 close_unique = one.close_unique
 
-pub reason_unique : (file : List ℕ) (assignment : List ℤ) (number : ℕ) (before after after' : List ℤ) (r s : ReasonAnswer)
+pub reason_unique : (file : List ℕ) (assignment : List ℤ) (number : ℕ) (before after after' : List ℤ) (r s : Result Answer Refusal)
     → ReasonedIs file assignment number before after r → ReasonedIs file assignment number before after' s → (r ≡ s) × (after ≡ after')
 reason_unique = one.reason_unique
 
-pub search_unique : (file : List ℕ) (budget : ℕ) (before after after' : List ℤ) (r s : SearchAnswer)
+pub search_unique : (file : List ℕ) (budget : ℕ) (before after after' : List ℤ) (r s : Result Found Refusal)
     → SearchedIs file budget before after r → SearchedIs file budget before after' s → (r ≡ s) × (after ≡ after')
 search_unique = one.search_unique
 
-pub write_clauses_unique : (file : List ℕ) (before after after' : List ℤ) (r s : WriteAnswer)
+pub write_clauses_unique : (file : List ℕ) (before after after' : List ℤ) (r s : Result Counts Refusal)
     → WrittenIs file before after r → WrittenIs file before after' s → (r ≡ s) × (after ≡ after')
 write_clauses_unique = one.write_clauses_unique
 
-pub write_dimacs_unique : (file before after after' : List ℕ) (r s : WriteDimacsAnswer)
+pub write_dimacs_unique : (file before after after' : List ℕ) (r s : Result ℕ Refusal)
     → PrintedIs file before after r → PrintedIs file before after' s → (r ≡ s) × (after ≡ after')
 write_dimacs_unique = one.write_dimacs_unique
 
-pub read_dimacs_unique : (file lines before after after' : List ℕ) (r s : ReadDimacsAnswer)
+pub read_dimacs_unique : (file lines before after after' : List ℕ) (r s : Result Rules Refusal)
     → RulesReadIs file lines before after r → RulesReadIs file lines before after' s → (r ≡ s) × (after ≡ after')
 read_dimacs_unique = one.read_dimacs_unique
 
@@ -135,30 +132,30 @@ pub whole_search : (φ : PlanFile) → Ranged φ → (o : Outcome) × (B : ℕ) 
 whole_search = demand-2.whole_search
 
 module _ (file : List ℕ) (φ : PlanFile) (reads : read_plan file ≡ accepted φ) (budget : ℕ) (before after : List ℤ) (long : length before ≡ φ.variables) where
-  pub plan_is_first : (b : ℕ) → SearchedIs file budget before after (Plan b) → IsPlan φ after × ((q : List ℤ) → IsPlan φ q → (after ≡ q) ⊎ Before φ after q)
+  pub plan_is_first : (b : ℕ) → SearchedIs file budget before after (Ok (Plan b)) → IsPlan φ after × ((q : List ℤ) → IsPlan φ q → (after ≡ q) ⊎ Before φ after q)
   plan_is_first = demand-2.plan_is_first file φ reads budget before after long
 
-  pub impossible_is : (b : ℕ) → SearchedIs file budget before after (Impossible b) → (q : List ℤ) → IsPlan φ q → ⊥
+  pub impossible_is : (b : ℕ) → SearchedIs file budget before after (Ok (Impossible b)) → (q : List ℤ) → IsPlan φ q → ⊥
   impossible_is = demand-2.impossible_is file φ reads budget before after long
 
   -- "'Undecided' exactly if B is above the budget (u32); then the reported count is the budget, else it is B."
   module _ {o : Outcome} {B : ℕ} (tree : Tree φ (all_open φ) o B) where
-    pub plan_count : (b : ℕ) → SearchedIs file budget before after (Plan b) → (b ≡ B) × (B ≤ budget)
+    pub plan_count : (b : ℕ) → SearchedIs file budget before after (Ok (Plan b)) → (b ≡ B) × (B ≤ budget)
     plan_count = demand-2.plan_count file φ reads budget before after long tree
 
-    pub impossible_count : (b : ℕ) → SearchedIs file budget before after (Impossible b) → (b ≡ B) × (B ≤ budget)
+    pub impossible_count : (b : ℕ) → SearchedIs file budget before after (Ok (Impossible b)) → (b ≡ B) × (B ≤ budget)
     impossible_count = demand-2.impossible_count file φ reads budget before after long tree
 
-    pub undecided_count : (b : ℕ) → SearchedIs file budget before after (Undecided b) → (b ≡ budget) × (budget < B)
+    pub undecided_count : (b : ℕ) → SearchedIs file budget before after (Ok (Undecided b)) → (b ≡ budget) × (budget < B)
     undecided_count = demand-2.undecided_count file φ reads budget before after long tree
 
-    pub found_if : (r : SearchAnswer) → SearchedIs file budget before after r → B ≤ budget → (q : List ℤ) → IsPlan φ q → r ≡ Plan B
+    pub found_if : (r : Result Found Refusal) → SearchedIs file budget before after r → B ≤ budget → (q : List ℤ) → IsPlan φ q → r ≡ Ok (Plan B)
     found_if = demand-2.found_if file φ reads budget before after long tree
 
-    pub impossible_if : (r : SearchAnswer) → SearchedIs file budget before after r → B ≤ budget → ((q : List ℤ) → IsPlan φ q → ⊥) → r ≡ Impossible B
+    pub impossible_if : (r : Result Found Refusal) → SearchedIs file budget before after r → B ≤ budget → ((q : List ℤ) → IsPlan φ q → ⊥) → r ≡ Ok (Impossible B)
     impossible_if = demand-2.impossible_if file φ reads budget before after long tree
 
-    pub undecided_if : (r : SearchAnswer) → SearchedIs file budget before after r → budget < B → r ≡ Undecided budget
+    pub undecided_if : (r : Result Found Refusal) → SearchedIs file budget before after r → budget < B → r ≡ Ok (Undecided budget)
     undecided_if = demand-2.undecided_if file φ reads budget before after long tree
 
     -- "With k variables open after the first closing, B is at most 2 to the k, less 1."
@@ -167,15 +164,15 @@ module _ (file : List ℕ) (φ : PlanFile) (reads : read_plan file ≡ accepted 
 
 -- Demand 3: the written clauses have exactly one continuation for each plan and none for anything else; read back at the zeros, from the
 -- numbers in the caller's buffer. The counts are 01's formulas.
-module _ (file : List ℕ) (φ : PlanFile) (reads : read_plan file ≡ accepted φ) (before after : List ℤ) (variables clauses numbers : ℕ) (h : WrittenIs file before after (Written variables clauses numbers)) where
-  pub written_exactly_one : ExactlyOne φ (clauses_of (take numbers after)) variables
-  written_exactly_one = demand-3.written_exactly_one file φ reads before after variables clauses numbers h
+module _ (file : List ℕ) (φ : PlanFile) (reads : read_plan file ≡ accepted φ) (before after : List ℤ) (counts : Counts) (h : WrittenIs file before after (Ok counts)) where
+  pub written_exactly_one : ExactlyOne φ (clauses_of (take counts.numbers after)) counts.variables
+  written_exactly_one = demand-3.written_exactly_one file φ reads before after counts h
 
-  pub reads_back : clauses_of (take numbers after) ≡ written φ
-  reads_back = demand-3.reads_back file φ reads before after variables clauses numbers h
+  pub reads_back : clauses_of (take counts.numbers after) ≡ written φ
+  reads_back = demand-3.reads_back file φ reads before after counts h
 
-  pub clause_count : clauses ≡ length (clauses_of (take numbers after))
-  clause_count = demand-3.clause_count file φ reads before after variables clauses numbers h
+  pub clause_count : counts.clauses ≡ length (clauses_of (take counts.numbers after))
+  clause_count = demand-3.clause_count file φ reads before after counts h
 
 pub counts_by_formula : (φ : PlanFile) → Ranged φ → Counted φ
 counts_by_formula = sizes.counted
@@ -186,7 +183,7 @@ pub printed_reads : (variables : ℕ) (Cs : List (List ℤ)) → variables ≤ 2
 printed_reads = back.reads_back
 
 -- What `write_dimacs` leaves in the caller's buffer reads back as the written-out clauses, so demand 3 speaks of what a solver reads.
-module _ (file : List ℕ) (φ : PlanFile) (reads : read_plan file ≡ accepted φ) (before after : List ℕ) (bytes : ℕ) (h : PrintedIs file before after (Printed bytes)) where
+module _ (file : List ℕ) (φ : PlanFile) (reads : read_plan file ≡ accepted φ) (before after : List ℕ) (bytes : ℕ) (h : PrintedIs file before after (Ok bytes)) where
   pub text_reads_back : (rs : List Rule) × (read_text (take bytes after) ≡ good 0 (last_variable φ) (length (written φ)) rs) × (literals_of rs ≡ written φ) × ExactlyOne φ (literals_of rs) (last_variable φ)
   text_reads_back = texts.text_reads_back file φ reads before after bytes h
 
@@ -195,9 +192,9 @@ pub parts_whole : (φ : PlanFile) → each (suc (length φ.atoms)) (part φ) ≡
 parts_whole = parts.parts_whole
 
 -- The plan file with the records of `read_dimacs` put in before its end record is accepted, and is the same plan with the text's clauses behind its own.
-module _ (file : List ℕ) (φ : PlanFile) (reads : read_plan file ≡ accepted φ) (lines before after : List ℕ) (clauses literals : ℕ) (h : RulesReadIs file lines before after (Rules clauses literals)) where
-  pub rules_accepted : (rs : List Rule) × (rules_for φ lines ≡ rules rs) × (read_plan (inserted file (take (3 * clauses + 2 * literals) after)) ≡ accepted (with_clauses φ (literals_of rs)))
-  rules_accepted = texts.rules_accepted file φ reads lines before after clauses literals h
+module _ (file : List ℕ) (φ : PlanFile) (reads : read_plan file ≡ accepted φ) (lines before after : List ℕ) (r : Rules) (h : RulesReadIs file lines before after (Ok r)) where
+  pub rules_accepted : (rs : List Rule) × (rules_for φ lines ≡ rules rs) × (read_plan (inserted file (take (3 * r.clauses + 2 * r.literals) after)) ≡ accepted (with_clauses φ (literals_of rs)))
+  rules_accepted = texts.rules_accepted file φ reads lines before after r h
 
 -- 02, C-12: "The empty clause is legal." A clause record of length 0 is taken where there is room for one clause more, else it is 7 like any other; "odd lengths stay".
 module _ (file : List ℕ) (at : ℕ) (p : PlanFile) (inside : fits file at ≡ true) (tag : tag_at file at ≡ 4) where
@@ -221,17 +218,17 @@ lone_zero_over = zeros.zero_over
 -- A file with an empty clause behind the clauses Cs and before the clauses Ds, where the call refuses nothing.
 module _ (φ : PlanFile) (Cs Ds : List (List ℤ)) (is : φ.clauses ≡ Cs ++ ([] ∷ Ds)) (file : List ℕ) (reads : read_plan file ≡ accepted φ) where
   -- "Closing then clashes at once", whatever is given
-  pub empty_clause_clashes : (given before after : List ℤ) (r : CloseAnswer) → close_checks given before φ ≡ clear φ → ClosedIs file given before after r → (r ≡ Clash) × (after ≡ before)
+  pub empty_clause_clashes : (given before after : List ℤ) (r : Result CloseAnswer Refusal) → close_checks given before φ ≡ clear φ → ClosedIs file given before after r → (r ≡ Ok Clash) × (after ≡ before)
   empty_clause_clashes = empties.close_clashes φ Cs Ds is file reads
 
   -- "the search says impossible with 0 branchings", whatever the budget
-  pub empty_clause_impossible : (budget : ℕ) (before after : List ℤ) (r : SearchAnswer) → search_checks before φ ≡ clear φ → SearchedIs file budget before after r
-      → (r ≡ Impossible 0) × (after ≡ before)
+  pub empty_clause_impossible : (budget : ℕ) (before after : List ℤ) (r : Result Found Refusal) → search_checks before φ ≡ clear φ → SearchedIs file budget before after r
+      → (r ≡ Ok (Impossible 0)) × (after ≡ before)
   empty_clause_impossible = empties.search_impossible φ Cs Ds is file reads
 
   -- judging names it as the first clause without a true literal, where those before it have one
-  pub empty_clause_judged : (assignment : List ℤ) (r : JudgeAnswer) → judge_checks assignment φ ≡ clear φ → ((C : List ℤ) → Memᴰ C Cs → HasTrue assignment C) → JudgeIs file assignment r
-      → r ≡ Clause (suc (length Cs))
+  pub empty_clause_judged : (assignment : List ℤ) (r : Result Judgement Refusal) → judge_checks assignment φ ≡ clear φ → ((C : List ℤ) → Memᴰ C Cs → HasTrue assignment C) → JudgeIs file assignment r
+      → r ≡ Ok (Clause (suc (length Cs)))
   empty_clause_judged = empties.judge_names φ Cs Ds is file reads
 
   -- what is written behind it
@@ -239,11 +236,11 @@ module _ (φ : PlanFile) (Cs Ds : List (List ℤ)) (is : φ.clauses ≡ Cs ++ ([
   behind = Ds ++ blocks φ.nodes φ.edges φ.variables φ.atoms
 
   -- "and the clause list holds a lone 0": among the numbers, where it counts as a clause and as one number; and as a line of the text
-  pub empty_clause_listed : (before after : List ℤ) (variables clauses numbers : ℕ) → WrittenIs file before after (Written variables clauses numbers)
-      → (take numbers after ≡ flat Cs ++ (pos 0 ∷ flat behind)) × (clauses ≡ length Cs + 1 + length behind) × (numbers ≡ length (flat Cs) + 1 + length (flat behind))
+  pub empty_clause_listed : (before after : List ℤ) (counts : Counts) → WrittenIs file before after (Ok counts)
+      → (take counts.numbers after ≡ flat Cs ++ (pos 0 ∷ flat behind)) × (counts.clauses ≡ length Cs + 1 + length behind) × (counts.numbers ≡ length (flat Cs) + 1 + length (flat behind))
   empty_clause_listed = empties.list_holds φ Cs Ds is file reads
 
-  pub empty_clause_printed : (before after : List ℕ) (bytes : ℕ) → PrintedIs file before after (Printed bytes)
+  pub empty_clause_printed : (before after : List ℕ) (bytes : ℕ) → PrintedIs file before after (Ok bytes)
       → take bytes after ≡ head_line (last_variable φ) (length (written φ))
       ++ (entries (flat Cs) ++ (zero_digit ∷ line_end ∷ (entries (flat Ds) ++ block_texts φ.nodes φ.edges 1 φ.variables φ.atoms)))
   empty_clause_printed = empties.text_holds φ Cs Ds is file reads
@@ -253,9 +250,9 @@ module _ (φ : PlanFile) (Cs Ds : List (List ℤ)) (is : φ.clauses ≡ Cs ++ ([
   empty_clause_unsatisfied = empties.list_unsatisfied φ Cs Ds is
 
 -- `read_dimacs` writes the record of length 0 for it. So the plan file with the records put in (`rules_accepted`) is one of those above.
-pub empty_clause_recorded : (file : List ℕ) (φ : PlanFile) → read_plan file ≡ accepted φ → (lines before after : List ℕ) (clauses literals : ℕ) → RulesReadIs file lines before after (Rules clauses literals)
+pub empty_clause_recorded : (file : List ℕ) (φ : PlanFile) → read_plan file ≡ accepted φ → (lines before after : List ℕ) (r : Rules) → RulesReadIs file lines before after (Ok r)
     → (rs : List Rule) (Cs Ds : List (List ℤ)) → rules_for φ lines ≡ rules rs → literals_of rs ≡ Cs ++ ([] ∷ Ds)
-    → take (3 * clauses + 2 * literals) after ≡ records Cs ++ (4 ∷ 0 ∷ 0 ∷ records Ds)
+    → take (3 * r.clauses + 2 * r.literals) after ≡ records Cs ++ (4 ∷ 0 ∷ 0 ∷ records Ds)
 empty_clause_recorded = empties.record_holds
 
 -- "P1 to P10 are one table, shown from the definitions by one argument"

@@ -2,7 +2,6 @@
 -- plan file with the rules' records put in is accepted, with the rules behind its own clauses.
 -- Assumes nothing.
 use mathlib.Core.Path.{◌≡◌, refl, sym, subst, ◌∙◌, ap}
-use mathlib.Core.Bool.{Bool, true, false}
 use mathlib.Core.List.{List, []}
 use Prim.Native.Nat.{ℕ, ◌+◌, ◌*◌, ◌≤◌}
 use native.Mathlib.Omega.{arith}
@@ -11,6 +10,7 @@ use lib.IntN.{ℤ}
 use lib.Dec.{leb}
 use lib.ListN.{length, take, drop}
 use lib.Seq.{take_at}
+use Rattle.std.specs.Prelude.{Ok, Err}
 use Rattle.plan.specs.Meaning.{PlanFile}
 use Rattle.plan.specs.Buffers.{Kept}
 use Rattle.plan.specs.Ranged.{literals}
@@ -27,37 +27,16 @@ use Rattle.dimacs.proofs.Verdicts.{literals_of_length}
 use Rattle.dimacs.proofs.Ruled.{rules_in, rules_ruled}
 use Rattle.listing.specs.Text.{text}
 use Rattle.listing.proofs.ReadsBack.{Reads, text_reads}
-use Rattle.planner.specs.declared.WriteDimacsAnswer.TheVariants as print
-use Rattle.planner.specs.declared.ReadDimacsAnswer.TheVariants as read
-use Rattle.planner.specs.Refusing.{Met, clear, require, after_reading, Refuses, Case}
-use Rattle.planner.specs.WriteDimacs.{print_checks, TextWritten, PrintCase, PrintBy, PrintedIs}
+use Rattle.dimacs.specs.declared.Rules as counted
+use Rattle.planner.specs.Refusing.{clear, after_reading, Refuses, Case}
+use Rattle.planner.specs.WriteDimacs.{print_checks, TextWritten, PrintedIs}
 use Rattle.planner.specs.ReadDimacs.{rules_for, with_room, rules_checks, RulesWritten, RulesCase, RulesBy, RulesReadIs}
 use Rattle.planner.proofs.Inserting.{inserted_reads}
-use Rattle.planner.proofs.Stating.{met, checked, blocks_met}
+use Rattle.planner.proofs.Stating.{met, checked, never, passed, wrote_clear}
 
--- what the call met, where it printed: no kind without a block, and room
-no_refusal : {k w n : ℕ} → Refuses print.Refused k w (print.Printed n) → ⊥
-no_refusal h = let e = h.is in let z : ◌≡◌ {A = ℕ} 0 1 = cc in omega arith
-
-printed_clear : (φ : PlanFile) (before after : List ℕ) (n : ℕ) → PrintBy (print_checks before φ) before after (print.Printed n) → AllHaveBlocks φ.atoms × TextWritten φ before after n
-printed_clear φ before after n h = let q = blocks_met φ (room (leb (length (text φ)) (length before))) R C (λ k w x. no_refusal x.0) h.case in (q.0, go (leb (length (text φ)) (length before)) q.1)
-  where
-    room : Bool → Met
-    room b = require b 12 (length (text φ)) (clear φ)
-
-    R : ℕ → ℕ → Type 0
-    R k w = Refuses print.Refused k w (print.Printed n) × Kept before after
-
-    C : PlanFile → Type 0
-    C ψ = PrintCase ψ before after (print.Printed n)
-
-    go : (b : Bool) → Case R C (room b) → TextWritten φ before after n
-    go true k = k
-    go false k = absurd (no_refusal k.0)
-
-module _ (file : List ℕ) (φ : PlanFile) (reads : read_plan file ≡ accepted φ) (before after : List ℕ) (n : ℕ) (h : PrintedIs file before after (print.Printed n)) where
+module _ (file : List ℕ) (φ : PlanFile) (reads : read_plan file ≡ accepted φ) (before after : List ℕ) (n : ℕ) (h : PrintedIs file before after (Ok n)) where
   clear_out : AllHaveBlocks φ.atoms × TextWritten φ before after n
-  clear_out = printed_clear φ before after n (record { case = met (checked file (print_checks before) reads) h })
+  clear_out = wrote_clear φ _ _ (record { case = met (checked file (print_checks before) reads) h })
 
   out : TextWritten φ before after n
   out = clear_out.1
@@ -74,59 +53,46 @@ module _ (file : List ℕ) (φ : PlanFile) (reads : read_plan file ≡ accepted 
       (back.of, back.is, back.are, subst (λ (Cs : List (List ℤ)). ExactlyOne φ Cs (last_variable φ)) (sym back.are) (exactly_one φ (read_ranged file φ reads) clear_out.0))
 
 -- what the call met, where it gave rules: there was room for their records
-pub record Given (φ : PlanFile) (lines before after : List ℕ) (c l : ℕ) : Type 0 where
-  pub written_out : RulesWritten φ lines before after c l
+pub record Given (φ : PlanFile) (lines before after : List ℕ) (r : counted.Rules) : Type 0 where
+  pub written_out : RulesWritten φ lines before after r.clauses r.literals
   pub room : length (records (literals_of written_out.of)) ≤ length before
 
--- an answer is no refusal
-never : {n v c l : ℕ} → Refuses read.Refused n v (read.Rules c l) → ⊥
-never k = let e = k.is in let z : ◌≡◌ {A = ℕ} 0 1 = cc in omega arith
-
-module _ (φ : PlanFile) (lines before after : List ℕ) (c l : ℕ) where
-  -- the statement's case at what is met, where rules are given
-  abbrev Meets : Met → Type 0
-  Meets = Case (λ k w. Refuses read.Refused k w (read.Rules c l) × Kept before after) (λ ψ. RulesCase ψ lines before after (read.Rules c l))
-
-  room_met : (rs : List Rule) → rules_for φ lines ≡ rules rs → (b : Bool) → leb (length (records (literals_of rs))) (length before) ≡ b
-      → Meets (require b 12 (length (records (literals_of rs))) (clear φ)) → Given φ lines before after c l
-  room_met rs e true t k =
-      let same : rs ≡ k.of = ap rules_in (sym e ∙ k.read) in
-      record { written_out = k; room = subst (λ (x : List Rule). length (records (literals_of x)) ≤ length before) same (leb-true _ _ t) }
-  room_met rs e false t k = absurd (never k.0)
-
-  rules_met : (q : Rules) → rules_for φ lines ≡ q → Meets (with_room before φ q) → Given φ lines before after c l
-  rules_met (refused n v) e k = absurd (never k.0)
-  rules_met (rules rs) e k = room_met rs e (leb (length (records (literals_of rs))) (length before)) refl k
-
-  rules_clear : RulesBy (rules_checks lines before φ) lines before after (read.Rules c l) → Given φ lines before after c l
-  rules_clear h = rules_met (rules_for φ lines) refl h.case
+module _ (φ : PlanFile) (lines before after : List ℕ) (r : counted.Rules) where
+  rules_met : (q : Rules) → rules_for φ lines ≡ q → RulesBy (with_room before φ q) lines before after (Ok r) → Given φ lines before after r
+  rules_met (refused n v) e h = absurd (never h.case.0)
+  rules_met (rules rs) e h =
+      let n = length (records (literals_of rs)) in
+      let p = passed (leb n (length before)) 12 n (clear φ) h in
+      let w = p.1.case in
+      let same : rs ≡ w.of = ap rules_in (sym e ∙ w.read) in
+      record { written_out = w; room = subst (λ (x : List Rule). length (records (literals_of x)) ≤ length before) same (leb-true _ _ p.0) }
 
 -- a call that gave rules had an accepted file
-pub rules_reads : (file lines before after : List ℕ) (c l : ℕ) → RulesReadIs file lines before after (read.Rules c l) → (φ : PlanFile) × (read_plan file ≡ accepted φ)
+pub rules_reads : (file lines before after : List ℕ) (r : counted.Rules) → RulesReadIs file lines before after (Ok r) → (φ : PlanFile) × (read_plan file ≡ accepted φ)
 unfolding after_reading
-rules_reads file lines before after c l h = by (read_plan file) refl h.case
+rules_reads file lines before after r h = by (read_plan file) refl h.case
   where
     by : (q : Reading) → read_plan file ≡ q
-        → Case (λ k w. Refuses read.Refused k w (read.Rules c l) × Kept before after) (λ ψ. RulesCase ψ lines before after (read.Rules c l)) (after_reading q (rules_checks lines before))
+        → Case (λ k w. Refuses Err k w (Ok r) × Kept before after) (λ ψ. RulesCase ψ lines before after (Ok r)) (after_reading q (rules_checks lines before))
         → (φ : PlanFile) × (read_plan file ≡ accepted φ)
     by (file-refused n v) e k = absurd (never k.0)
     by (accepted φ) e k = (φ, e)
 
-module _ (file : List ℕ) (φ : PlanFile) (reads : read_plan file ≡ accepted φ) (lines before after : List ℕ) (c l : ℕ) (h : RulesReadIs file lines before after (read.Rules c l)) where
-  pub given : Given φ lines before after c l
-  given = rules_clear φ lines before after c l (record { case = met (checked file (rules_checks lines before) reads) h })
+module _ (file : List ℕ) (φ : PlanFile) (reads : read_plan file ≡ accepted φ) (lines before after : List ℕ) (r : counted.Rules) (h : RulesReadIs file lines before after (Ok r)) where
+  pub given : Given φ lines before after r
+  given = rules_met φ lines before after r (rules_for φ lines) refl (record { case = met (checked file (rules_checks lines before) reads) h })
 
   -- the clauses of the text
   abbrev ruled : List (List ℤ)
   ruled = literals_of given.written_out.of
 
-  needed : 3 * c + 2 * l ≡ length (records ruled)
+  needed : 3 * r.clauses + 2 * r.literals ≡ length (records ruled)
   needed = omega (arith, given.written_out.count, given.written_out.literals_are, literals_of_length given.written_out.of, records_length ruled)
 
-  pub records_fit : 3 * c + 2 * l ≤ length before
+  pub records_fit : 3 * r.clauses + 2 * r.literals ≤ length before
   records_fit = omega (arith, needed, given.room)
 
-  pub records_stand : take (3 * c + 2 * l) after ≡ records ruled
+  pub records_stand : take (3 * r.clauses + 2 * r.literals) after ≡ records ruled
   records_stand = ap (λ (k : ℕ). take k after) needed ∙ ap (take (length (records ruled))) given.written_out.wrote ∙ take_at (records ruled) (drop (length (records ruled)) before) _ refl
 
   joins : Joins φ ruled
@@ -140,11 +106,11 @@ module _ (file : List ℕ) (φ : PlanFile) (reads : read_plan file ≡ accepted 
       }
 
   -- the plan file with the records put in is accepted, and has the text's clauses behind its own
-  pub rules_accepted : (rs : List Rule) × (rules_for φ lines ≡ rules rs) × (read_plan (inserted file (take (3 * c + 2 * l) after)) ≡ accepted (with_clauses φ (literals_of rs)))
+  pub rules_accepted : (rs : List Rule) × (rules_for φ lines ≡ rules rs) × (read_plan (inserted file (take (3 * r.clauses + 2 * r.literals) after)) ≡ accepted (with_clauses φ (literals_of rs)))
   rules_accepted = (given.written_out.of, given.written_out.read, ap (λ (R : List ℕ). read_plan (inserted file R)) records_stand ∙ inserted_reads file reads joins)
 
 -- what a program that joins the two needs: the end record's bytes are there, and the records are in the buffer
-pub joinable : (file lines before after : List ℕ) (c l : ℕ) → RulesReadIs file lines before after (read.Rules c l) → (3 ≤ length file) × (3 * c + 2 * l ≤ length before)
-joinable file lines before after c l h =
-    let a = rules_reads file lines before after c l h in
-    (omega (arith, (read_runs a.1).ended.last), records_fit file a.0 a.1 lines before after c l h)
+pub joinable : (file lines before after : List ℕ) (r : counted.Rules) → RulesReadIs file lines before after (Ok r) → (3 ≤ length file) × (3 * r.clauses + 2 * r.literals ≤ length before)
+joinable file lines before after r h =
+    let a = rules_reads file lines before after r h in
+    (omega (arith, (read_runs a.1).ended.last), records_fit file a.0 a.1 lines before after r h)

@@ -11,17 +11,17 @@ use lib.ListN.{length, drop}
 use lib.IntN.{ℤ}
 use lib.Dec.{eqb, leb}
 use borrow.Author.Tests.{le-leb, lt-leb}
-use Rattle.plan.specs.Buffers.{Answered}
+use Rattle.std.specs.Prelude.{Result, Ok, Err}
+use Rattle.plan.specs.Buffers.{Kept, Answered}
 use Rattle.plan.specs.Meaning.{PlanFile, atom, true_in}
-use Rattle.plan.specs.Buffers.{Kept}
 use Rattle.plan.specs.Judging as judging
 use Rattle.plan.specs.Places.{first_not}
 use Rattle.plan.specs.Reason.{Reason, holds, fails, neither, ReasonIs}
 use Rattle.plan.specs.Search.{Outcome, nothing, found, CloseIs, Answer, decided, undecided, Searched}
 use Rattle.plan.specs.Written.{flat, written, last_variable}
 use Rattle.plan.specs.declared.Plan.{Plan}
-use Rattle.plan.specs.declared.Refusal.{Refusal}
-use Rattle.plan.specs.declared.Refusal.TheVariants.{NoRoom}
+use Rattle.plan.specs.declared.refusal.Refusal.{Refusal}
+use Rattle.plan.specs.declared.refusal.Refusal.TheVariants.{NoRoom}
 use Rattle.plan.proofs.Refusals.{one_refusal}
 use Rattle.plan.proofs.Judging.{judged_unique}
 use Rattle.plan.proofs.Closing.{not_both}
@@ -35,22 +35,16 @@ use Rattle.dimacs.proofs.Ruled.{rules_in}
 use Rattle.listing.specs.Text.{text}
 use Rattle.reader.specs.Format.{Reading, refused as not-read, accepted, read_plan}
 use Rattle.reader.proofs.Accepts.{read_ranged}
-use Rattle.reader.specs.declared.ReadAnswer.{ReadAnswer}
-use Rattle.reader.specs.declared.ReadAnswer.TheVariants as read
-use Rattle.planner.specs.declared.JudgeAnswer.{JudgeAnswer}
-use Rattle.planner.specs.declared.JudgeAnswer.TheVariants as judge
+use Rattle.judge.specs.declared.Judgement.{Judgement}
+use Rattle.judge.specs.declared.Judgement.TheVariants as judge
+use Rattle.reason.specs.declared.Answer as reason
+use Rattle.reason.specs.declared.Answer.TheVariants.{Holds, Fails, Open}
+use Rattle.search.specs.declared.Found.{Found}
+use Rattle.search.specs.declared.Found.TheVariants as search
+use Rattle.clauses.specs.declared.Counts as written-counts
+use Rattle.dimacs.specs.declared.Rules as rule-counts
 use Rattle.planner.specs.declared.CloseAnswer.{CloseAnswer}
-use Rattle.planner.specs.declared.CloseAnswer.TheVariants as close
-use Rattle.planner.specs.declared.ReasonAnswer.{ReasonAnswer}
-use Rattle.planner.specs.declared.ReasonAnswer.TheVariants as reason
-use Rattle.planner.specs.declared.SearchAnswer.{SearchAnswer}
-use Rattle.planner.specs.declared.SearchAnswer.TheVariants as search
-use Rattle.planner.specs.declared.WriteAnswer.{WriteAnswer}
-use Rattle.planner.specs.declared.WriteAnswer.TheVariants as write
-use Rattle.planner.specs.declared.WriteDimacsAnswer.{WriteDimacsAnswer}
-use Rattle.planner.specs.declared.WriteDimacsAnswer.TheVariants as print
-use Rattle.planner.specs.declared.ReadDimacsAnswer.{ReadDimacsAnswer}
-use Rattle.planner.specs.declared.ReadDimacsAnswer.TheVariants as dimacs
+use Rattle.planner.specs.declared.CloseAnswer.TheVariants.{Closed, Clash}
 use Rattle.planner.specs.Refusing.{Met, refusal, clear, require, after_reading, require_values, require_atom, is_value, Names, Refuses, Case, By, KeepingBy}
 use Rattle.planner.specs.Read.{Counts, ReadCase, ReadIs}
 use Rattle.planner.specs.Judge.{JudgeCase, JudgeIs}
@@ -65,8 +59,8 @@ use Rattle.planner.specs.ReadDimacs.{rules_for, RulesCase, RulesReadIs}
 one_name : (n v : ℕ) (x y : Refusal) → Names n v x → Names n v y → x ≡ y
 one_name n v x y h k = one_refusal x y (sym h.number ∙ k.number) (sym h.value ∙ k.value)
 
-one_refuses : {A : Type 0} {refused : Refusal → A} {n v : ℕ} {r s : A} → Refuses refused n v r → Refuses refused n v s → r ≡ s
-one_refuses {refused = refused} {n = n} {v = v} h k = h.is ∙ ap refused (one_name n v h.why k.why h.names k.names) ∙ sym k.is
+one_refuses : {A : Type 0} {n v : ℕ} {r s : Result A Refusal} → Refuses Err n v r → Refuses Err n v s → r ≡ s
+one_refuses {n = n} {v = v} h k = h.is ∙ ap Err (one_name n v h.why k.why h.names k.names) ∙ sym k.is
 
 -- no second answer with its buffer fits
 abbrev pub OneLeft : {A B : Type 0} → (List B → A → Type 0) → Type 0
@@ -78,7 +72,7 @@ pub record Told {O X : Type 0} (Leads : O → Type 0) (tell : O → X) (x : X) :
   pub is : Leads of
   pub told : x ≡ tell of
 
-module _ {A O : Type 0} (refused : Refusal → A) (Leads : PlanFile → O → Type 0) where
+module _ {O : Type 0} (Leads : PlanFile → O → Type 0) where
   -- there is one outcome where nothing is refused
   abbrev OneOutcome : Met → Type 0
   OneOutcome m = (φ : PlanFile) → m ≡ clear φ → (o p : O) → Leads φ o → Leads φ p → o ≡ p
@@ -87,20 +81,21 @@ module _ {A O : Type 0} (refused : Refusal → A) (Leads : PlanFile → O → Ty
   one_told one φ e tell h k = h.told ∙ ap tell (one φ e h.of k.of h.is k.is) ∙ sym k.told
 
   -- a call without a lent buffer
-  unique : {m : Met} → OneOutcome m → (tell : O → A) (C : A → PlanFile → Type 0) → ((φ : PlanFile) (r : A) → C r φ → Told (Leads φ) tell r) → (r s : A)
-      → By m (λ n v. Refuses refused n v r) (C r) → By m (λ n v. Refuses refused n v s) (C s) → r ≡ s
-  unique {m} one tell C led r s h k = go m refl h.case k.case
+  unique : {A : Type 0} {m : Met} → OneOutcome m → (tell : O → Result A Refusal) (C : Result A Refusal → PlanFile → Type 0)
+      → ((φ : PlanFile) (r : Result A Refusal) → C r φ → Told (Leads φ) tell r) → (r s : Result A Refusal)
+      → By m (λ n v. Refuses Err n v r) (C r) → By m (λ n v. Refuses Err n v s) (C s) → r ≡ s
+  unique {m = m} one tell C led r s h k = go m refl h.case k.case
     where
-      go : (m' : Met) → m ≡ m' → Case (λ n v. Refuses refused n v r) (C r) m' → Case (λ n v. Refuses refused n v s) (C s) m' → r ≡ s
+      go : (m' : Met) → m ≡ m' → Case (λ n v. Refuses Err n v r) (C r) m' → Case (λ n v. Refuses Err n v s) (C s) m' → r ≡ s
       go (refusal n v) e x y = one_refuses x y
       go (clear φ) e x y = one_told one φ e tell (led φ r x) (led φ s y)
 
   -- a call with one
-  unique_left : {B : Type 0} {m : Met} → OneOutcome m → (tell : O → A × List B) (before : List B) (C : A → List B → PlanFile → Type 0)
-      → ((φ : PlanFile) (r : A) (after : List B) → C r after φ → Told (Leads φ) tell (r, after)) → OneLeft (λ after r. KeepingBy m refused (C r after) before after r)
+  unique_left : {A B : Type 0} {m : Met} → OneOutcome m → (tell : O → Result A Refusal × List B) (before : List B) (C : Result A Refusal → List B → PlanFile → Type 0)
+      → ((φ : PlanFile) (r : Result A Refusal) (after : List B) → C r after φ → Told (Leads φ) tell (r, after)) → OneLeft (λ after r. KeepingBy m Err (C r after) before after r)
   unique_left {m = m} one tell before C led after after' r s h k = go m refl h.case k.case
     where
-      go : (m' : Met) → m ≡ m' → Case (λ n v. Refuses refused n v r × Kept before after) (C r after) m' → Case (λ n v. Refuses refused n v s × Kept before after') (C s after') m'
+      go : (m' : Met) → m ≡ m' → Case (λ n v. Refuses Err n v r × Kept before after) (C r after) m' → Case (λ n v. Refuses Err n v s × Kept before after') (C s after') m'
           → (r ≡ s) × (after ≡ after')
       go (refusal n v) e x y = (one_refuses x.0 y.0, x.1 ∙ sym y.1)
       go (clear φ) e x y = let q = one_told one φ e tell (led φ r after x) (led φ s after' y) in (ap (λ z. z.0) q, ap (λ z. z.1) q)
@@ -120,36 +115,36 @@ one_count φ p q x y =
     let g : p.literals ≡ q.literals = sym x.literals ∙ y.literals in
     λ i. record { nodes = a i; variables = b i; edges = d i; atoms = e i; clauses = f i; literals = g i }
 
-read_led : (φ : PlanFile) (r : ReadAnswer) → ReadCase φ r → Told (Counts φ) read.Accepted r
-read_led φ (read.Refused y) h = absurd h
-read_led φ (read.Accepted p) h = record { of = p; is = h; told = refl }
+read_led : (φ : PlanFile) (r : Result Plan Refusal) → ReadCase φ r → Told (Counts φ) Ok r
+read_led φ (Err y) h = absurd h
+read_led φ (Ok p) h = record { of = p; is = h; told = refl }
 
-pub read_unique : (file : List ℕ) (r s : ReadAnswer) → ReadIs file r → ReadIs file s → r ≡ s
-read_unique file r s h k = unique read.Refused Counts (λ φ e. one_count φ) read.Accepted (λ r φ. ReadCase φ r) read_led r s h k
+pub read_unique : (file : List ℕ) (r s : Result Plan Refusal) → ReadIs file r → ReadIs file s → r ≡ s
+read_unique file r s h k = unique Counts (λ φ e. one_count φ) Ok (λ r φ. ReadCase φ r) read_led r s h k
 
 -- ---- judge
 
-abbrev told_judge : judging.Judgement → JudgeAnswer
-told_judge judging.plan = judge.Plan
-told_judge (judging.no_true n) = judge.Clause n
-told_judge (judging.wrong n) = judge.Atom n
+abbrev told_judge : judging.Judgement → Result Judgement Refusal
+told_judge judging.plan = Ok judge.Plan
+told_judge (judging.no_true n) = Ok (judge.Clause n)
+told_judge (judging.wrong n) = Ok (judge.Atom n)
 
 module _ (a : List ℤ) where
-  judge_led : (φ : PlanFile) (r : JudgeAnswer) → JudgeCase φ a r → Told (judging.Judged φ a) told_judge r
-  judge_led φ (judge.Refused y) h = absurd h
-  judge_led φ judge.Plan h = record { of = judging.plan; is = h; told = refl }
-  judge_led φ (judge.Clause k) h = record { of = judging.no_true k; is = h; told = refl }
-  judge_led φ (judge.Atom k) h = record { of = judging.wrong k; is = h; told = refl }
+  judge_led : (φ : PlanFile) (r : Result Judgement Refusal) → JudgeCase φ a r → Told (judging.Judged φ a) told_judge r
+  judge_led φ (Err y) h = absurd h
+  judge_led φ (Ok judge.Plan) h = record { of = judging.plan; is = h; told = refl }
+  judge_led φ (Ok (judge.Clause k)) h = record { of = judging.no_true k; is = h; told = refl }
+  judge_led φ (Ok (judge.Atom k)) h = record { of = judging.wrong k; is = h; told = refl }
 
-pub judge_unique : (file : List ℕ) (a : List ℤ) (r s : JudgeAnswer) → JudgeIs file a r → JudgeIs file a s → r ≡ s
-judge_unique file a r s h k = unique judge.Refused (λ φ. judging.Judged φ a) (λ φ e. judged_unique φ a) told_judge (λ r φ. JudgeCase φ a r) (judge_led a) r s h k
+pub judge_unique : (file : List ℕ) (a : List ℤ) (r s : Result Judgement Refusal) → JudgeIs file a r → JudgeIs file a s → r ≡ s
+judge_unique file a r s h k = unique (λ φ. judging.Judged φ a) (λ φ e. judged_unique φ a) told_judge (λ r φ. JudgeCase φ a r) (judge_led a) r s h k
 
 -- ---- close
 
 module _ (given before : List ℤ) where
-  abbrev told_close : Outcome → CloseAnswer × List ℤ
-  told_close nothing = (close.Clash, before)
-  told_close (found p) = (close.Closed, p)
+  abbrev told_close : Outcome → Result CloseAnswer Refusal × List ℤ
+  told_close nothing = (Ok Clash, before)
+  told_close (found p) = (Ok Closed, p)
 
   one_close : (φ : PlanFile) (o p : Outcome) → CloseIs φ given o → CloseIs φ given p → o ≡ p
   one_close φ nothing nothing h k = refl
@@ -157,14 +152,14 @@ module _ (given before : List ℤ) where
   one_close φ (found o) nothing h k = absurd (not_both φ (true_in given) (true_in o) h.closed k)
   one_close φ (found o) (found p) h k = ap found (closes_unique φ given given o p refl h k)
 
-  close_led : (φ : PlanFile) (r : CloseAnswer) (after : List ℤ) → CloseCase φ given before after r → Told (CloseIs φ given) told_close (r, after)
-  close_led φ (close.Refused y) after h = absurd h
-  close_led φ close.Closed after h = record { of = found after; is = h; told = refl }
-  close_led φ close.Clash after h = record { of = nothing; is = h.0; told = kept h.1 }
+  close_led : (φ : PlanFile) (r : Result CloseAnswer Refusal) (after : List ℤ) → CloseCase φ given before after r → Told (CloseIs φ given) told_close (r, after)
+  close_led φ (Err y) after h = absurd h
+  close_led φ (Ok Closed) after h = record { of = found after; is = h; told = refl }
+  close_led φ (Ok Clash) after h = record { of = nothing; is = h.0; told = kept h.1 }
 
 pub close_unique : (file : List ℕ) (given before : List ℤ) → OneLeft (ClosedIs file given before)
 close_unique file given before =
-    unique_left close.Refused (λ φ. CloseIs φ given) (λ φ e. one_close given before φ) (told_close given before) before (λ r after φ. CloseCase φ given before after r) (close_led given before)
+    unique_left (λ φ. CloseIs φ given) (λ φ e. one_close given before φ) (told_close given before) before (λ r after φ. CloseCase φ given before after r) (close_led given before)
 
 -- ---- reason
 
@@ -173,33 +168,33 @@ module _ (a : List ℤ) (k : ℕ) (before : List ℤ) where
   Gives φ o = ReasonIs φ a (atom φ.atoms (k - 1)) o
 
   -- a clause is written where there is room
-  abbrev told_clause : (ℕ → ReasonAnswer) → List ℤ → Bool → ReasonAnswer × List ℤ
-  told_clause make r b = cond b (make (length r), r ++ drop (length r) before) (reason.Refused (NoRoom (length r)), before)
+  abbrev told_clause : (ℕ → reason.Answer) → List ℤ → Bool → Result reason.Answer Refusal × List ℤ
+  told_clause make r b = cond b (Ok (make (length r)), r ++ drop (length r) before) (Err (NoRoom (length r)), before)
 
-  abbrev told_reason : Reason → ReasonAnswer × List ℤ
-  told_reason (holds r) = told_clause reason.Holds r (leb (length r) (length before))
-  told_reason (fails r) = told_clause reason.Fails r (leb (length r) (length before))
-  told_reason neither = (reason.Open, before)
+  abbrev told_reason : Reason → Result reason.Answer Refusal × List ℤ
+  told_reason (holds r) = told_clause Holds r (leb (length r) (length before))
+  told_reason (fails r) = told_clause Fails r (leb (length r) (length before))
+  told_reason neither = (Ok Open, before)
 
-  module _ (make : ℕ → ReasonAnswer) (r after : List ℤ) where
-    written_out : (n : ℕ) → Answered r before after n → ◌≡◌ {A = ReasonAnswer × List ℤ} (make n, after) (told_clause make r (leb (length r) (length before)))
+  module _ (make : ℕ → reason.Answer) (r after : List ℤ) where
+    written_out : (n : ℕ) → Answered r before after n → ◌≡◌ {A = Result reason.Answer Refusal × List ℤ} (Ok (make n), after) (told_clause make r (leb (length r) (length before)))
     written_out n g =
         let e = g.counted in
         let f = g.wrote in
-        (λ i. (make (e i), f i)) ∙ ap (told_clause make r) (sym (le-leb (length r) (length before) g.fits))
+        (λ i. (Ok (make (e i)), f i)) ∙ ap (told_clause make r) (sym (le-leb (length r) (length before) g.fits))
 
     no_room : (y : Refusal) → length before < length r → Names 12 (length r) y → after ≡ before
-        → ◌≡◌ {A = ReasonAnswer × List ℤ} (reason.Refused y, after) (told_clause make r (leb (length r) (length before)))
+        → ◌≡◌ {A = Result reason.Answer Refusal × List ℤ} (Err y, after) (told_clause make r (leb (length r) (length before)))
     no_room y l n f =
         let e = one_name 12 (length r) y (NoRoom (length r)) n (record { number = refl; value = refl }) in
-        (λ i. (reason.Refused (e i), f i)) ∙ ap (told_clause make r) (sym (lt-leb (length r) (length before) l))
+        (λ i. (Err (e i), f i)) ∙ ap (told_clause make r) (sym (lt-leb (length r) (length before) l))
 
-  reason_led : (φ : PlanFile) (r : ReasonAnswer) (after : List ℤ) → ReasonCase φ a k before after r → Told (Gives φ) told_reason (r, after)
-  reason_led φ (reason.Refused y) after (r, inl h, l, n, f) = record { of = holds r; is = h; told = no_room reason.Holds r after y l n f }
-  reason_led φ (reason.Refused y) after (r, inr h, l, n, f) = record { of = fails r; is = h; told = no_room reason.Fails r after y l n f }
-  reason_led φ (reason.Holds n) after h = record { of = holds h.0; is = h.1; told = written_out reason.Holds h.0 after n h.2 }
-  reason_led φ (reason.Fails n) after h = record { of = fails h.0; is = h.1; told = written_out reason.Fails h.0 after n h.2 }
-  reason_led φ reason.Open after h = record { of = neither; is = h.0; told = kept h.1 }
+  reason_led : (φ : PlanFile) (r : Result reason.Answer Refusal) (after : List ℤ) → ReasonCase φ a k before after r → Told (Gives φ) told_reason (r, after)
+  reason_led φ (Err y) after (r, inl h, l, n, f) = record { of = holds r; is = h; told = no_room Holds r after y l n f }
+  reason_led φ (Err y) after (r, inr h, l, n, f) = record { of = fails r; is = h; told = no_room Fails r after y l n f }
+  reason_led φ (Ok (Holds n)) after h = record { of = holds h.0; is = h.1; told = written_out Holds h.0 after n h.2 }
+  reason_led φ (Ok (Fails n)) after h = record { of = fails h.0; is = h.1; told = written_out Fails h.0 after n h.2 }
+  reason_led φ (Ok Open) after h = record { of = neither; is = h.0; told = kept h.1 }
 
 -- a file with nothing in the way of a reason is one that was accepted
 require_clear : (b : Bool) (n v : ℕ) (m : Met) (ψ : PlanFile) → require b n v m ≡ clear ψ → m ≡ clear ψ
@@ -223,15 +218,15 @@ asked_ranged file a k ψ h = go (read_plan file) refl h
 
 pub reason_unique : (file : List ℕ) (a : List ℤ) (i : ℕ) (before : List ℤ) → OneLeft (ReasonedIs file a i before)
 reason_unique file a i before =
-    unique_left reason.Refused (Gives a i before) (λ φ e. reasons.reason_unique φ (asked_ranged file a i φ e) a (atom φ.atoms (i - 1))) (told_reason a i before) before (λ r after φ. ReasonCase φ a i before after r) (reason_led a i before)
+    unique_left (Gives a i before) (λ φ e. reasons.reason_unique φ (asked_ranged file a i φ e) a (atom φ.atoms (i - 1))) (told_reason a i before) before (λ r after φ. ReasonCase φ a i before after r) (reason_led a i before)
 
 -- ---- search
 
 module _ (budget : ℕ) (before : List ℤ) where
-  abbrev told_search : Answer × ℕ → SearchAnswer × List ℤ
-  told_search (decided (found p), b) = (search.Plan b, p)
-  told_search (decided nothing, b) = (search.Impossible b, before)
-  told_search (undecided, b) = (search.Undecided b, before)
+  abbrev told_search : Answer × ℕ → Result Found Refusal × List ℤ
+  told_search (decided (found p), b) = (Ok (search.Plan b), p)
+  told_search (decided nothing, b) = (Ok (search.Impossible b), before)
+  told_search (undecided, b) = (Ok (search.Undecided b), before)
 
   abbrev Ends : PlanFile → Answer × ℕ → Type 0
   Ends φ o = Searched φ (all_open φ) budget o.0 o.1
@@ -239,51 +234,51 @@ module _ (budget : ℕ) (before : List ℤ) where
   one_end : (φ : PlanFile) (o p : Answer × ℕ) → Ends φ o → Ends φ p → o ≡ p
   one_end φ o p h k = let q = searched_unique φ h k in let e = q.0 in let f = q.1 in λ i. (e i, f i)
 
-  search_led : (φ : PlanFile) (r : SearchAnswer) (after : List ℤ) → SearchCase φ budget before after r → Told (Ends φ) told_search (r, after)
-  search_led φ (search.Refused y) after h = absurd h
-  search_led φ (search.Plan b) after h = record { of = (decided (found after), b); is = h; told = refl }
-  search_led φ (search.Impossible b) after h = record { of = (decided nothing, b); is = h.0; told = kept h.1 }
-  search_led φ (search.Undecided b) after h = record { of = (undecided, b); is = h.0; told = kept h.1 }
+  search_led : (φ : PlanFile) (r : Result Found Refusal) (after : List ℤ) → SearchCase φ budget before after r → Told (Ends φ) told_search (r, after)
+  search_led φ (Err y) after h = absurd h
+  search_led φ (Ok (search.Plan b)) after h = record { of = (decided (found after), b); is = h; told = refl }
+  search_led φ (Ok (search.Impossible b)) after h = record { of = (decided nothing, b); is = h.0; told = kept h.1 }
+  search_led φ (Ok (search.Undecided b)) after h = record { of = (undecided, b); is = h.0; told = kept h.1 }
 
 pub search_unique : (file : List ℕ) (budget : ℕ) (before : List ℤ) → OneLeft (SearchedIs file budget before)
 search_unique file budget before =
-    unique_left search.Refused (Ends budget before) (λ φ e. one_end budget before φ) (told_search budget before) before (λ r after φ. SearchCase φ budget before after r) (search_led budget before)
+    unique_left (Ends budget before) (λ φ e. one_end budget before φ) (told_search budget before) before (λ r after φ. SearchCase φ budget before after r) (search_led budget before)
 
 -- ---- write_clauses
 
 module _ (before : List ℤ) where
-  abbrev told_write : PlanFile → WriteAnswer × List ℤ
-  told_write φ = (write.Written (last_variable φ) (length (written φ)) (length (flat (written φ))), flat (written φ) ++ drop (length (flat (written φ))) before)
+  abbrev told_write : PlanFile → Result written-counts.Counts Refusal × List ℤ
+  told_write φ = (Ok (record { variables = last_variable φ; clauses = length (written φ); numbers = length (flat (written φ)) }), flat (written φ) ++ drop (length (flat (written φ))) before)
 
-  write_led : (φ : PlanFile) (r : WriteAnswer) (after : List ℤ) → WriteCase φ before after r → Told (λ o. o ≡ φ) told_write (r, after)
-  write_led φ (write.Refused y) after h = absurd h
-  write_led φ (write.Written a b c) after h =
+  write_led : (φ : PlanFile) (r : Result written-counts.Counts Refusal) (after : List ℤ) → WriteCase φ before after r → Told (λ o. o ≡ φ) told_write (r, after)
+  write_led φ (Err y) after h = absurd h
+  write_led φ (Ok counts) after h =
       let x = h.last in
       let y = h.count in
       let z = h.length_is in
       let w = h.wrote in
-      record { of = φ; is = refl; told = λ i. (write.Written (x i) (y i) (z i), w i) }
+      record { of = φ; is = refl; told = λ i. (Ok (record { variables = x i; clauses = y i; numbers = z i }), w i) }
 
 pub write_clauses_unique : (file : List ℕ) (before : List ℤ) → OneLeft (WrittenIs file before)
 write_clauses_unique file before =
-    unique_left write.Refused (λ φ o. o ≡ φ) (λ φ z o p e f. e ∙ sym f) (told_write before) before (λ r after φ. WriteCase φ before after r) (write_led before)
+    unique_left (λ φ o. o ≡ φ) (λ φ z o p e f. e ∙ sym f) (told_write before) before (λ r after φ. WriteCase φ before after r) (write_led before)
 
 -- ---- write_dimacs
 
 module _ (before : List ℕ) where
-  abbrev told_print : PlanFile → WriteDimacsAnswer × List ℕ
-  told_print φ = (print.Printed (length (text φ)), text φ ++ drop (length (text φ)) before)
+  abbrev told_print : PlanFile → Result ℕ Refusal × List ℕ
+  told_print φ = (Ok (length (text φ)), text φ ++ drop (length (text φ)) before)
 
-  print_led : (φ : PlanFile) (r : WriteDimacsAnswer) (after : List ℕ) → PrintCase φ before after r → Told (λ o. o ≡ φ) told_print (r, after)
-  print_led φ (print.Refused y) after h = absurd h
-  print_led φ (print.Printed n) after h =
+  print_led : (φ : PlanFile) (r : Result ℕ Refusal) (after : List ℕ) → PrintCase φ before after r → Told (λ o. o ≡ φ) told_print (r, after)
+  print_led φ (Err y) after h = absurd h
+  print_led φ (Ok n) after h =
       let x = h.count in
       let w = h.wrote in
-      record { of = φ; is = refl; told = λ i. (print.Printed (x i), w i) }
+      record { of = φ; is = refl; told = λ i. (Ok (x i), w i) }
 
 pub write_dimacs_unique : (file before : List ℕ) → OneLeft (PrintedIs file before)
 write_dimacs_unique file before =
-    unique_left print.Refused (λ φ o. o ≡ φ) (λ φ z o p e f. e ∙ sym f) (told_print before) before (λ r after φ. PrintCase φ before after r) (print_led before)
+    unique_left (λ φ o. o ≡ φ) (λ φ z o p e f. e ∙ sym f) (told_print before) before (λ r after φ. PrintCase φ before after r) (print_led before)
 
 -- ---- read_dimacs
 
@@ -291,17 +286,17 @@ module _ (lines before : List ℕ) where
   abbrev Holding : PlanFile → List Rule → Type 0
   Holding φ rs = rules_for φ lines ≡ rules rs
 
-  abbrev told_rules : List Rule → ReadDimacsAnswer × List ℕ
-  told_rules rs = (dimacs.Rules (length rs) (literals (literals_of rs)), records (literals_of rs) ++ drop (length (records (literals_of rs))) before)
+  abbrev told_rules : List Rule → Result rule-counts.Rules Refusal × List ℕ
+  told_rules rs = (Ok (record { clauses = length rs; literals = literals (literals_of rs) }), records (literals_of rs) ++ drop (length (records (literals_of rs))) before)
 
-  rules_led : (φ : PlanFile) (r : ReadDimacsAnswer) (after : List ℕ) → RulesCase φ lines before after r → Told (Holding φ) told_rules (r, after)
-  rules_led φ (dimacs.Refused y) after h = absurd h
-  rules_led φ (dimacs.Rules c l) after h =
+  rules_led : (φ : PlanFile) (r : Result rule-counts.Rules Refusal) (after : List ℕ) → RulesCase φ lines before after r → Told (Holding φ) told_rules (r, after)
+  rules_led φ (Err y) after h = absurd h
+  rules_led φ (Ok r) after h =
       let x = h.count in
       let y = h.literals_are in
       let w = h.wrote in
-      record { of = h.of; is = h.read; told = λ i. (dimacs.Rules (x i) (y i), w i) }
+      record { of = h.of; is = h.read; told = λ i. (Ok (record { clauses = x i; literals = y i }), w i) }
 
 pub read_dimacs_unique : (file lines before : List ℕ) → OneLeft (RulesReadIs file lines before)
 read_dimacs_unique file lines before =
-    unique_left dimacs.Refused (Holding lines before) (λ φ z o p e f. ap rules_in (sym e ∙ f)) (told_rules lines before) before (λ r after φ. RulesCase φ lines before after r) (rules_led lines before)
+    unique_left (Holding lines before) (λ φ z o p e f. ap rules_in (sym e ∙ f)) (told_rules lines before) before (λ r after φ. RulesCase φ lines before after r) (rules_led lines before)

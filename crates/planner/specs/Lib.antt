@@ -7,3 +7,4 @@ pub mod Search
 pub mod WriteClauses
 pub mod ReadDimacs
 pub mod WriteDimacs
+pub mod Checks

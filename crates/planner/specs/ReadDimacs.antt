@@ -1,14 +1,14 @@
 -- The statement of the public call `read_dimacs`: its answer, and the output buffer before and after. Document 02, C-11.
 -- Assumes nothing.
-use Rattle.std.specs.Prelude.{◌≡◌, List, ℕ, length, leb}
+use Rattle.std.specs.Prelude.{◌≡◌, List, ℕ, length, leb, Result, Ok, Err}
 use Rattle.plan.specs.Meaning.{PlanFile}
 use Rattle.plan.specs.Buffers.{Wrote}
 use Rattle.plan.specs.Ranged.{literals}
 use Rattle.reader.specs.Format.{read_plan}
 use Rattle.dimacs.specs.Reading.{Rule, Rules, refused, rules, literals_of, read_rules}
 use Rattle.dimacs.specs.Records.{records}
-use Rattle.planner.specs.declared.ReadDimacsAnswer.{ReadDimacsAnswer}
-use Rattle.planner.specs.declared.ReadDimacsAnswer.TheVariants as answer
+use Rattle.plan.specs.declared.refusal.Refusal.{Refusal}
+use Rattle.dimacs.specs.declared.Rules as answer
 use Rattle.planner.specs.Refusing.{Met, refusal, clear, after_reading, require, KeepingBy}
 
 -- What the text reads as beside a plan file: refusals 20, 21, 22 and 7, or its clauses.
@@ -32,13 +32,13 @@ pub record RulesWritten (φ : PlanFile) (text before after : List ℕ) (clauses 
   pub wrote : Wrote (records (literals_of of)) before after
 
 -- The records are written: where nothing is refused.
-abbrev pub RulesCase : PlanFile → List ℕ → List ℕ → List ℕ → ReadDimacsAnswer → Type 0
-RulesCase φ text before after (answer.Refused y) = ⊥
-RulesCase φ text before after (answer.Rules c l) = RulesWritten φ text before after c l
+abbrev pub RulesCase : PlanFile → List ℕ → List ℕ → List ℕ → Result answer.Rules Refusal → Type 0
+RulesCase φ text before after (Err y) = ⊥
+RulesCase φ text before after (Ok r) = RulesWritten φ text before after r.clauses r.literals
 
 -- The statement by what is met; of the call: by what reading and then the checks meet.
-abbrev pub RulesBy : Met → List ℕ → List ℕ → List ℕ → ReadDimacsAnswer → Type 0
-RulesBy m text before after r = KeepingBy m answer.Refused (λ φ. RulesCase φ text before after r) before after r
+abbrev pub RulesBy : Met → List ℕ → List ℕ → List ℕ → Result answer.Rules Refusal → Type 0
+RulesBy m text before after r = KeepingBy m Err (λ φ. RulesCase φ text before after r) before after r
 
-abbrev pub RulesReadIs : List ℕ → List ℕ → List ℕ → List ℕ → ReadDimacsAnswer → Type 0
+abbrev pub RulesReadIs : List ℕ → List ℕ → List ℕ → List ℕ → Result answer.Rules Refusal → Type 0
 RulesReadIs file text before after r = RulesBy (after_reading (read_plan file) (rules_checks text before)) text before after r

@@ -6,7 +6,7 @@ use Rattle.plan.specs.Buffers.{Kept}
 use Rattle.plan.specs.Places.{first_not}
 use Rattle.plan.specs.Written.{first_unwritten}
 use Rattle.plan.specs.Refusals.{number_of, value_of}
-use Rattle.plan.specs.declared.Refusal.{Refusal}
+use Rattle.plan.specs.declared.refusal.Refusal.{Refusal}
 use Rattle.reader.specs.Format.{Reading, refused, accepted}
 
 -- What a call meets: a refusal with its number and value, or a file that is accepted and nothing in the way.

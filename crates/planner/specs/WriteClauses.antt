@@ -1,12 +1,12 @@
 -- The statement of the public call `write_clauses`: its answer, and the output buffer before and after.
 -- Assumes nothing.
-use Rattle.std.specs.Prelude.{◌≡◌, List, ℕ, length, ℤ, leb}
+use Rattle.std.specs.Prelude.{◌≡◌, List, ℕ, length, ℤ, leb, Result, Ok, Err}
 use Rattle.plan.specs.Meaning.{PlanFile}
 use Rattle.plan.specs.Written.{flat, written, last_variable}
 use Rattle.plan.specs.Buffers.{Wrote}
 use Rattle.reader.specs.Format.{read_plan}
-use Rattle.planner.specs.declared.WriteAnswer.{WriteAnswer}
-use Rattle.planner.specs.declared.WriteAnswer.TheVariants.{Refused, Written}
+use Rattle.plan.specs.declared.refusal.Refusal.{Refusal}
+use Rattle.clauses.specs.declared.Counts.{Counts}
 use Rattle.planner.specs.Refusing.{Met, clear, after_reading, require, require_blocks, KeepingBy}
 
 -- "12: output buffer too short for the exact answer; length needed"
@@ -21,13 +21,13 @@ pub record WrittenOut (φ : PlanFile) (before after : List ℤ) (variables claus
   pub wrote : Wrote (flat (written φ)) before after
 
 -- The clauses are written out: where nothing is refused.
-abbrev pub WriteCase : PlanFile → List ℤ → List ℤ → WriteAnswer → Type 0
-WriteCase φ before after (Refused y) = ⊥
-WriteCase φ before after (Written a b c) = WrittenOut φ before after a b c
+abbrev pub WriteCase : PlanFile → List ℤ → List ℤ → Result Counts Refusal → Type 0
+WriteCase φ before after (Err y) = ⊥
+WriteCase φ before after (Ok counts) = WrittenOut φ before after counts.variables counts.clauses counts.numbers
 
 -- The statement by what is met; of the call: by what reading and then the checks meet.
-abbrev pub WriteBy : Met → List ℤ → List ℤ → WriteAnswer → Type 0
-WriteBy m before after r = KeepingBy m Refused (λ φ. WriteCase φ before after r) before after r
+abbrev pub WriteBy : Met → List ℤ → List ℤ → Result Counts Refusal → Type 0
+WriteBy m before after r = KeepingBy m Err (λ φ. WriteCase φ before after r) before after r
 
-abbrev pub WrittenIs : List ℕ → List ℤ → List ℤ → WriteAnswer → Type 0
+abbrev pub WrittenIs : List ℕ → List ℤ → List ℤ → Result Counts Refusal → Type 0
 WrittenIs file before after r = WriteBy (after_reading (read_plan file) (write_checks before)) before after r

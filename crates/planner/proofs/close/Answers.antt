@@ -1,36 +1,50 @@
--- `close`: the reader's refusal is the call's, and what is accepted is closed in the used parts of the tables.
-use Rattle.planner.proofs.Shell.{refl, Room, Parts, room, parts, named, when_refused, when_accepted}
+-- `close`: the checks as the statement has them; a copy is closed, and where there is no clash it is copied to the result.
+use mathlib.Core.Path.{◌≡◌, refl, sym, subst, ◌∙◌}
+use mathlib.Core.List.{List}
+use Prim.Native.Nat.{ℕ, ◌≤◌}
+use native.Mathlib.Omega.{arith}
+use lib.IntN.{ℤ}
+use lib.ListN.{length, take}
+use Rattle.plan.specs.Ranged.{max_variables}
+use borrow.Author.Rules.{rules}
+use Rattle.plan.specs.Buffers.{Kept}
+use Rattle.plan.specs.File.{file_of}
+use Rattle.plan.specs.Search.{Assigned, CloseIs, nothing, found}
+use Rattle.plan.specs.Tables.{BeginsWith}
+use Rattle.planner.proofs.Outcomes.{front_is}
+use Rattle.planner.proofs.Stating.{meets, stops_keeping, accepts, refuses, assigned_of}
 use Rattle.planner.proofs.close.Goals as goal
 
-module _ (c : goal.After-edges-in-Accepted-1) where
-  fits : Room c.in-Accepted.plan
-  fits = room _ _ _ _ c.read_into-reading.ensures c.in-Accepted.is
+pub returns-in_err-tables : goal.returns-in_err-tables
+returns-in_err-tables c = stops_keeping _ c.from_residual.ensures.1 refl (refuses _ _ _ c.in_err-tables.ensures)
 
--- the parts that are lent on
-module _ (c : goal.After-close_lent-arg-1) where
-  used : Parts c.args.file.now c.in-Accepted.plan c.used_edges.result.now c.used_atoms.result.now c.used_clauses.result.now
-  used = parts _ _ _ _ c.read_into-reading.ensures c.in-Accepted.is c.used_edges.ensures c.used_atoms.ensures c.used_clauses.ensures
+pub returns-in_err-require_length : goal.returns-in_err-require_length
+returns-in_err-require_length c = stops_keeping _ c.from_residual-in_err-require_length.ensures.1 refl (accepts _ _ _ c.in_ok-tables.ensures ∙ c.in_err-require_length.ensures.passes _)
 
-pub used_edges-requires : goal.used_edges-requires
-used_edges-requires c = fits c
+pub returns-in_err-require_length-2 : goal.returns-in_err-require_length-2
+returns-in_err-require_length-2 c = stops_keeping _ c.from_residual-in_err-require_length-2.ensures.1 refl (accepts _ _ _ c.in_ok-tables.ensures ∙ c.in_ok-require_length.ensures.passes _ ∙ c.in_err-require_length-2.ensures.passes _)
 
-pub used_atoms-requires : goal.used_atoms-requires
-used_atoms-requires c =
-    let fits : Room c.in-Accepted.plan = room _ _ _ _ c.read_into-reading.ensures c.in-Accepted.is in
-    fits
+pub returns-in_err-require_values : goal.returns-in_err-require_values
+returns-in_err-require_values c = stops_keeping _ c.from_residual-in_err-require_values.ensures.1 refl (accepts _ _ _ c.in_ok-tables.ensures ∙ c.in_ok-require_length.ensures.passes _ ∙ c.in_ok-require_length-2.ensures.passes _ ∙ c.in_err-require_values.ensures.passes _)
 
-pub used_clauses-requires : goal.used_clauses-requires
-used_clauses-requires c =
-    let fits : Room c.in-Accepted.plan = room _ _ _ _ c.read_into-reading.ensures c.in-Accepted.is in
-    fits
+-- the copy's front is what is given
+front : (r given : List ℤ) (n : ℕ) → n ≤ max_variables → length given ≡ n → length r ≡ max_variables → BeginsWith r given → take (length given) r ≡ given
+front r given n small is long begins = front_is r given (omega arith) begins
 
-pub close_lent-requires : goal.close_lent-requires
-close_lent-requires c = (used c).lent
+pub close-requires : goal.close-requires
+close-requires c =
+    subst (Assigned c.in_ok-tables.tables.plan.variables) (sym (front _ _ _ c.in_ok-tables.tables.lent.ranged.variables c.in_ok-require_length.ensures.holds (search rules) c.of-values.ensures)) (assigned_of c.args.given.now c.in_ok-require_length.ensures.holds c.in_ok-require_values.ensures.holds)
 
-pub returns-in-Refused : goal.returns-in-Refused
-returns-in-Refused c = when_refused _ _ _ _ _ c.read_into-reading.ensures c.in-Refused.is (named _, refl)
+pub returns-in-Err : goal.returns-in-Err
+returns-in-Err c =
+    let φ = file_of c.in_ok-tables.tables in
+    let clash : CloseIs φ c.args.given.now nothing × Kept c.args.res.now c.args.res.now =
+    (subst (λ a. CloseIs φ a nothing) (front _ _ _ c.in_ok-tables.tables.lent.ranged.variables c.in_ok-require_length.ensures.holds (search rules) c.of-values.ensures) c.in-Err.ensures.close_is, refl) in
+    meets (accepts _ _ _ c.in_ok-tables.ensures ∙ c.in_ok-require_length.ensures.passes _ ∙ c.in_ok-require_length-2.ensures.passes _ ∙ c.in_ok-require_values.ensures.passes _) clash
 
-pub returns-in-Accepted : goal.returns-in-Accepted
-returns-in-Accepted c =
-    let used : Parts c.args.file.now c.in-Accepted.plan c.used_edges.result.now c.used_atoms.result.now c.used_clauses.result.now = parts _ _ _ _ c.read_into-reading.ensures c.in-Accepted.is c.used_edges.ensures c.used_atoms.ensures c.used_clauses.ensures in
-    when_accepted _ _ (used).reads c.close_lent.ensures
+pub returns-in-Ok : goal.returns-in-Ok
+returns-in-Ok c =
+    let φ = file_of c.in_ok-tables.tables in
+    meets (accepts _ _ _ c.in_ok-tables.ensures ∙ c.in_ok-require_length.ensures.passes _ ∙ c.in_ok-require_length-2.ensures.passes _ ∙ c.in_ok-require_values.ensures.passes _)
+    (subst (λ a. CloseIs φ a (found c.copy_from_slice.new.self)) (front _ _ _ c.in_ok-tables.tables.lent.ranged.variables c.in_ok-require_length.ensures.holds (search rules) c.of-values.ensures)
+    (subst (λ w. CloseIs φ (take (length c.args.given.now) c.of-values.result.values) (found w)) (sym c.copy_from_slice.ensures.after) c.in-Ok.ensures.close_is))

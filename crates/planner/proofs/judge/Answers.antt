@@ -1,36 +1,20 @@
--- `judge`: the reader's refusal is the call's, and what is accepted is judged in the used parts of the tables.
-use Rattle.planner.proofs.Shell.{Room, Parts, room, parts, named, when_refused, when_accepted}
+-- `judge`: the checks as the statement has them, then the judgement.
+use mathlib.Core.Path.{◌∙◌}
+use Rattle.planner.proofs.Stating.{meets, stops, accepts, refuses, full_of}
+use Rattle.planner.proofs.Outcomes.{judged_is}
 use Rattle.planner.proofs.judge.Goals as goal
 
-module _ (c : goal.After-edges-in-Accepted-1) where
-  fits : Room c.in-Accepted.plan
-  fits = room _ _ _ _ c.read_into-reading.ensures c.in-Accepted.is
+pub returns-in_err-tables : goal.returns-in_err-tables
+returns-in_err-tables c = stops _ c.from_residual.ensures.1 (refuses _ _ _ c.in_err-tables.ensures)
 
--- the parts that are lent on
-module _ (c : goal.After-used_clauses) where
-  used : Parts c.args.file.now c.in-Accepted.plan c.used_edges.result.now c.used_atoms.result.now c.used_clauses.result.now
-  used = parts _ _ _ _ c.read_into-reading.ensures c.in-Accepted.is c.used_edges.ensures c.used_atoms.ensures c.used_clauses.ensures
+pub returns-in_err-require_length : goal.returns-in_err-require_length
+returns-in_err-require_length c = stops _ c.from_residual-in_err-require_length.ensures.1 (accepts _ _ _ c.in_ok-tables.ensures ∙ c.in_err-require_length.ensures.passes _)
 
-pub used_edges-requires : goal.used_edges-requires
-used_edges-requires c = fits c
+pub returns-in_err-require_values : goal.returns-in_err-require_values
+returns-in_err-require_values c = stops _ c.from_residual-in_err-require_values.ensures.1 (accepts _ _ _ c.in_ok-tables.ensures ∙ c.in_ok-require_length.ensures.passes _ ∙ c.in_err-require_values.ensures.passes _)
 
-pub used_atoms-requires : goal.used_atoms-requires
-used_atoms-requires c =
-    let fits : Room c.in-Accepted.plan = room _ _ _ _ c.read_into-reading.ensures c.in-Accepted.is in
-    fits
+pub judge-requires : goal.judge-requires
+judge-requires c = full_of c.args.assignment.now c.in_ok-require_length.ensures.holds c.in_ok-require_values.ensures.holds
 
-pub used_clauses-requires : goal.used_clauses-requires
-used_clauses-requires c =
-    let fits : Room c.in-Accepted.plan = room _ _ _ _ c.read_into-reading.ensures c.in-Accepted.is in
-    fits
-
-pub judge_lent-requires : goal.judge_lent-requires
-judge_lent-requires c = (used c).lent
-
-pub returns-in-Refused : goal.returns-in-Refused
-returns-in-Refused c = when_refused _ _ _ _ _ c.read_into-reading.ensures c.in-Refused.is (named _)
-
-pub returns-in-Accepted : goal.returns-in-Accepted
-returns-in-Accepted c =
-    let used : Parts c.args.file.now c.in-Accepted.plan c.used_edges.result.now c.used_atoms.result.now c.used_clauses.result.now = parts _ _ _ _ c.read_into-reading.ensures c.in-Accepted.is c.used_edges.ensures c.used_atoms.ensures c.used_clauses.ensures in
-    when_accepted _ _ (used).reads c.judge_lent.ensures
+pub returns : goal.returns
+returns c = meets (accepts _ _ _ c.in_ok-tables.ensures ∙ c.in_ok-require_length.ensures.passes _ ∙ c.in_ok-require_values.ensures.passes _) (judged_is _ _ c.judge.result c.judge.ensures)

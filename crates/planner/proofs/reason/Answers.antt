@@ -1,36 +1,37 @@
--- `reason`: the reader's refusal is the call's, and what is accepted is asked for a reason in the used parts of the tables.
-use Rattle.planner.proofs.Shell.{refl, Room, Parts, room, parts, named, when_refused, when_accepted}
+-- `reason`: the checks as the statement has them, then the reason or the length that the buffer lacks.
+use mathlib.Core.Path.{refl, sym, subst, ◌∙◌}
+use Rattle.std.proofs.lemmas.Result.{err_from_is_err_and}
+use Rattle.plan.specs.File.{file_of}
+use Rattle.planner.specs.Reason.{ReasonCase}
+use Rattle.planner.proofs.Stating.{meets, stops_keeping, accepts, refuses, assigned_of}
+use Rattle.planner.proofs.Outcomes.{reason_is, reason_short}
 use Rattle.planner.proofs.reason.Goals as goal
 
-module _ (c : goal.After-edges-in-Accepted-1) where
-  fits : Room c.in-Accepted.plan
-  fits = room _ _ _ _ c.read_into-reading.ensures c.in-Accepted.is
+pub returns-in_err-tables : goal.returns-in_err-tables
+returns-in_err-tables c = stops_keeping _ c.from_residual.ensures.1 refl (refuses _ _ _ c.in_err-tables.ensures)
 
--- the parts that are lent on
-module _ (c : goal.After-reason_lent-arg-1) where
-  used : Parts c.args.file.now c.in-Accepted.plan c.used_edges.result.now c.used_atoms.result.now c.used_clauses.result.now
-  used = parts _ _ _ _ c.read_into-reading.ensures c.in-Accepted.is c.used_edges.ensures c.used_atoms.ensures c.used_clauses.ensures
+pub returns-in_err-require_length : goal.returns-in_err-require_length
+returns-in_err-require_length c = stops_keeping _ c.from_residual-in_err-require_length.ensures.1 refl (accepts _ _ _ c.in_ok-tables.ensures ∙ c.in_err-require_length.ensures.passes _)
 
-pub used_edges-requires : goal.used_edges-requires
-used_edges-requires c = fits c
+pub returns-in_err-require_values : goal.returns-in_err-require_values
+returns-in_err-require_values c = stops_keeping _ c.from_residual-in_err-require_values.ensures.1 refl (accepts _ _ _ c.in_ok-tables.ensures ∙ c.in_ok-require_length.ensures.passes _ ∙ c.in_err-require_values.ensures.passes _)
 
-pub used_atoms-requires : goal.used_atoms-requires
-used_atoms-requires c =
-    let fits : Room c.in-Accepted.plan = room _ _ _ _ c.read_into-reading.ensures c.in-Accepted.is in
-    fits
+pub returns-in_err-require_atom : goal.returns-in_err-require_atom
+returns-in_err-require_atom c = stops_keeping _ c.from_residual-in_err-require_atom.ensures.1 refl (accepts _ _ _ c.in_ok-tables.ensures ∙ c.in_ok-require_length.ensures.passes _ ∙ c.in_ok-require_values.ensures.passes _ ∙ c.in_err-require_atom.ensures.passes _)
 
-pub used_clauses-requires : goal.used_clauses-requires
-used_clauses-requires c =
-    let fits : Room c.in-Accepted.plan = room _ _ _ _ c.read_into-reading.ensures c.in-Accepted.is in
-    fits
+pub reason-requires-clause-assigned : goal.reason-requires-clause-assigned
+reason-requires-clause-assigned c = assigned_of c.args.assignment.now c.in_ok-require_length.ensures.holds c.in_ok-require_values.ensures.holds
 
-pub reason_lent-requires : goal.reason_lent-requires
-reason_lent-requires c = (used c).lent
+pub returns-in_err-reason : goal.returns-in_err-reason
+returns-in_err-reason c =
+    let φ = file_of c.in_ok-tables.tables in
+    let p = err_from_is_err_and c.from_residual-in_err-reason.result c.from_residual-in_err-reason.ensures.1 in
+    meets (accepts _ _ _ c.in_ok-tables.ensures ∙ c.in_ok-require_length.ensures.passes _ ∙ c.in_ok-require_values.ensures.passes _ ∙ c.in_ok-require_atom.ensures.passes _)
+    (subst (λ r. ReasonCase φ c.args.assignment.now c.args.atom c.args.out.now c.reason.new.out r) (sym p.1)
+    (reason_short φ _ _ _ _ _ p.0 p.2 (c.in_err-reason.ensures φ)))
 
-pub returns-in-Refused : goal.returns-in-Refused
-returns-in-Refused c = when_refused _ _ _ _ _ c.read_into-reading.ensures c.in-Refused.is (named _, refl)
-
-pub returns-in-Accepted : goal.returns-in-Accepted
-returns-in-Accepted c =
-    let used : Parts c.args.file.now c.in-Accepted.plan c.used_edges.result.now c.used_atoms.result.now c.used_clauses.result.now = parts _ _ _ _ c.read_into-reading.ensures c.in-Accepted.is c.used_edges.ensures c.used_atoms.ensures c.used_clauses.ensures in
-    when_accepted _ _ (used).reads c.reason_lent.ensures
+pub returns : goal.returns
+returns c =
+    let φ = file_of c.in_ok-tables.tables in
+    meets (accepts _ _ _ c.in_ok-tables.ensures ∙ c.in_ok-require_length.ensures.passes _ ∙ c.in_ok-require_values.ensures.passes _ ∙ c.in_ok-require_atom.ensures.passes _)
+    (reason_is φ _ _ _ _ _ (c.in_ok-reason.ensures φ))

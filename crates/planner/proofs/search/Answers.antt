@@ -1,36 +1,14 @@
--- `search`: the reader's refusal is the call's, and what is accepted is searched in the used parts of the tables.
-use Rattle.planner.proofs.Shell.{refl, Room, Parts, room, parts, named, when_refused, when_accepted}
+-- `search`: the check of the result's length, then what the search finds.
+use mathlib.Core.Path.{refl, ◌∙◌}
+use Rattle.planner.proofs.Stating.{meets, stops_keeping, accepts, refuses}
+use Rattle.planner.proofs.Outcomes.{found_is}
 use Rattle.planner.proofs.search.Goals as goal
 
-module _ (c : goal.After-edges-in-Accepted-1) where
-  fits : Room c.in-Accepted.plan
-  fits = room _ _ _ _ c.read_into-reading.ensures c.in-Accepted.is
+pub returns-in_err-tables : goal.returns-in_err-tables
+returns-in_err-tables c = stops_keeping _ c.from_residual.ensures.1 refl (refuses _ _ _ c.in_err-tables.ensures)
 
--- the parts that are lent on
-module _ (c : goal.After-search_lent-arg-1) where
-  used : Parts c.args.file.now c.in-Accepted.plan c.used_edges.result.now c.used_atoms.result.now c.used_clauses.result.now
-  used = parts _ _ _ _ c.read_into-reading.ensures c.in-Accepted.is c.used_edges.ensures c.used_atoms.ensures c.used_clauses.ensures
+pub returns-in_err-require_length : goal.returns-in_err-require_length
+returns-in_err-require_length c = stops_keeping _ c.from_residual-in_err-require_length.ensures.1 refl (accepts _ _ _ c.in_ok-tables.ensures ∙ c.in_err-require_length.ensures.passes _)
 
-pub used_edges-requires : goal.used_edges-requires
-used_edges-requires c = fits c
-
-pub used_atoms-requires : goal.used_atoms-requires
-used_atoms-requires c =
-    let fits : Room c.in-Accepted.plan = room _ _ _ _ c.read_into-reading.ensures c.in-Accepted.is in
-    fits
-
-pub used_clauses-requires : goal.used_clauses-requires
-used_clauses-requires c =
-    let fits : Room c.in-Accepted.plan = room _ _ _ _ c.read_into-reading.ensures c.in-Accepted.is in
-    fits
-
-pub search_lent-requires : goal.search_lent-requires
-search_lent-requires c = (used c).lent
-
-pub returns-in-Refused : goal.returns-in-Refused
-returns-in-Refused c = when_refused _ _ _ _ _ c.read_into-reading.ensures c.in-Refused.is (named _, refl)
-
-pub returns-in-Accepted : goal.returns-in-Accepted
-returns-in-Accepted c =
-    let used : Parts c.args.file.now c.in-Accepted.plan c.used_edges.result.now c.used_atoms.result.now c.used_clauses.result.now = parts _ _ _ _ c.read_into-reading.ensures c.in-Accepted.is c.used_edges.ensures c.used_atoms.ensures c.used_clauses.ensures in
-    when_accepted _ _ (used).reads c.search_lent.ensures
+pub returns : goal.returns
+returns c = meets (accepts _ _ _ c.in_ok-tables.ensures ∙ c.in_ok-require_length.ensures.passes _) (found_is _ _ _ _ _ c.search.ensures)

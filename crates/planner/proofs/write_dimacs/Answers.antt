@@ -1,36 +1,29 @@
--- `write_dimacs`: the reader's refusal is the call's, and what is accepted is printed from the used parts of the tables.
-use Rattle.planner.proofs.Shell.{refl, Room, Parts, room, parts, named, when_refused, when_accepted}
+-- `write_dimacs`: every atom has a block, and there is room, exactly if the checks hold.
+use mathlib.Core.Path.{refl, sym, ap, ◌∙◌}
+use native.Mathlib.Omega.{arith}
+use lib.ListN.{length}
+use Rattle.plan.specs.File.{file_of}
+use Rattle.listing.specs.Text.{text}
+use Rattle.planner.specs.Refusing.{refusal}
+use Rattle.planner.proofs.Stating.{meets, stops_keeping, accepts, refuses, room_fails, room_holds}
 use Rattle.planner.proofs.write_dimacs.Goals as goal
 
-module _ (c : goal.After-edges-in-Accepted-1) where
-  fits : Room c.in-Accepted.plan
-  fits = room _ _ _ _ c.read_into-reading.ensures c.in-Accepted.is
+pub returns-in_err-tables : goal.returns-in_err-tables
+returns-in_err-tables c = stops_keeping _ c.from_residual.ensures.1 refl (refuses _ _ _ c.in_err-tables.ensures)
 
--- the parts that are lent on
-module _ (c : goal.After-print_lent-arg-1) where
-  used : Parts c.args.file.now c.in-Accepted.plan c.used_edges.result.now c.used_atoms.result.now c.used_clauses.result.now
-  used = parts _ _ _ _ c.read_into-reading.ensures c.in-Accepted.is c.used_edges.ensures c.used_atoms.ensures c.used_clauses.ensures
+pub returns-in_err-require_blocks : goal.returns-in_err-require_blocks
+returns-in_err-require_blocks c = stops_keeping _ c.from_residual-in_err-require_blocks.ensures.1 refl (accepts _ _ _ c.in_ok-tables.ensures ∙ c.in_err-require_blocks.ensures _)
 
-pub used_edges-requires : goal.used_edges-requires
-used_edges-requires c = fits c
+pub returns-in_err-write_text : goal.returns-in_err-write_text
+returns-in_err-write_text c =
+    let w = c.in_err-write_text.ensures in
+    let n = length (text (file_of c.in_ok-tables.tables)) in
+    stops_keeping _ c.from_residual-in_err-write_text.ensures.1 w.kept
+    (accepts _ _ _ c.in_ok-tables.ensures ∙ c.in_ok-require_blocks.ensures _ ∙ room_fails _ n (length c.args.out.now) (omega (arith, w.count, w.room)) ∙ ap (refusal 12) (sym w.count))
 
-pub used_atoms-requires : goal.used_atoms-requires
-used_atoms-requires c =
-    let fits : Room c.in-Accepted.plan = room _ _ _ _ c.read_into-reading.ensures c.in-Accepted.is in
-    fits
-
-pub used_clauses-requires : goal.used_clauses-requires
-used_clauses-requires c =
-    let fits : Room c.in-Accepted.plan = room _ _ _ _ c.read_into-reading.ensures c.in-Accepted.is in
-    fits
-
-pub print_lent-requires : goal.print_lent-requires
-print_lent-requires c = (used c).lent
-
-pub returns-in-Refused : goal.returns-in-Refused
-returns-in-Refused c = when_refused _ _ _ _ _ c.read_into-reading.ensures c.in-Refused.is (named _, refl)
-
-pub returns-in-Accepted : goal.returns-in-Accepted
-returns-in-Accepted c =
-    let used : Parts c.args.file.now c.in-Accepted.plan c.used_edges.result.now c.used_atoms.result.now c.used_clauses.result.now = parts _ _ _ _ c.read_into-reading.ensures c.in-Accepted.is c.used_edges.ensures c.used_atoms.ensures c.used_clauses.ensures in
-    when_accepted _ _ (used).reads c.print_lent.ensures
+pub returns : goal.returns
+returns c =
+    let w = c.in_ok-write_text.ensures in
+    let n = length (text (file_of c.in_ok-tables.tables)) in
+    meets (accepts _ _ _ c.in_ok-tables.ensures ∙ c.in_ok-require_blocks.ensures _ ∙ room_holds _ n (length c.args.out.now) w.room)
+    (record { count = w.count; wrote = w.is })
