@@ -6,12 +6,10 @@
 
 mod work;
 
-ghost use Rattle.plan.specs.Tables.{Lent};
-
-use plan::{Atom, Clause, Edge, Plan};
-use reader::ReadAnswer;
+use plan::Tables;
+use reader::Buffers;
 use std::io;
-use text::{INPUT, SIZE};
+use text::INPUT;
 
 fn main(rt: HostRuntime) -> io::Result<()> {
     let mut input = rt.stdin();
@@ -19,72 +17,34 @@ fn main(rt: HostRuntime) -> io::Result<()> {
     text::read_full(&mut input, &mut head)?;
     let mut file = [0u8; INPUT];
     let size = text::read_full(&mut input, &mut file)?;
-    let repetitions = four(head[1], head[2], head[3], head[4]);
-    let mut out = [0u8; SIZE];
-    let end = report(&rt, &mut out, head[0], repetitions, &file[..size])?;
-    text::flush(&rt, &out, end)
+    let repetitions = u32::from_be_bytes([head[1], head[2], head[3], head[4]]);
+    report(&rt, head[0], repetitions, &file[..size])
 }
 
-// The number of four bytes, the high one first.
-fn four(first: u8, second: u8, third: u8, fourth: u8) -> u32 {
-    first as u32 * 16777216 + second as u32 * 65536 + third as u32 * 256 + fourth as u32
-}
-
-fn report(
-    rt: &impl Print,
-    out: &mut [u8; SIZE],
-    operation: u8,
-    repetitions: u32,
-    file: &[u8],
-) -> io::Result<usize> {
-    let mut edges = [0u16; Edge::TABLE];
-    let mut atoms = [0u16; Atom::TABLE];
-    let mut clauses = [0i16; Clause::TABLE];
-    let reading = reader::read_into(file, &mut edges, &mut atoms, &mut clauses);
-    match reading {
-        ReadAnswer::Refused(why) => text::refusal_line(rt, out, why),
-        ReadAnswer::Accepted(plan) => {
-            let sum = done(
-                operation,
-                repetitions,
-                file,
-                plan,
-                reader::used_edges(plan, &edges),
-                reader::used_atoms(plan, &atoms),
-                reader::used_clauses(plan, &clauses),
-            );
-            line(rt, out, sum)
+fn report(rt: &impl Print, operation: u8, repetitions: u32, file: &[u8]) -> io::Result<()> {
+    let mut buffers = Buffers::new();
+    match buffers.read(file) {
+        Err(why) => println!(rt; "r {why}"),
+        Ok(tables) => {
+            let sum = done(operation, repetitions, file, &tables);
+            println!(rt; "{sum}")
         }
     }
 }
 
-fn line(rt: &impl Print, out: &mut [u8; SIZE], sum: u64) -> io::Result<usize> {
-    let next = text::number(rt, out, 0, sum)?;
-    text::byte(rt, out, next, b'\n')
-}
-
-fn done(
-    operation: u8,
-    repetitions: u32,
-    file: &[u8],
-    plan: Plan,
-    edges: &[u16],
-    atoms: &[u16],
-    clauses: &[i16],
-) -> u64
-    requires { Lent plan edges.now atoms.now clauses.now }
-{
+// The byte is told here once: an enum between would be a second match.
+fn done(operation: u8, repetitions: u32, file: &[u8], tables: &Tables) -> u64 {
     match operation {
         1 => work::read(file, repetitions),
-        2 => work::fill(plan, edges, atoms, clauses, repetitions),
-        3 => work::walk(plan, edges, atoms, clauses, repetitions),
-        4 => work::close(plan, edges, atoms, clauses, repetitions),
-        5 => work::write(plan, edges, atoms, clauses, repetitions),
-        6 => work::search(plan, edges, atoms, clauses, repetitions),
-        7 => work::print(plan, edges, atoms, clauses, repetitions),
-        8 => work::rules(plan, edges, atoms, clauses, repetitions),
-        9 => work::fill_chains(plan, edges, atoms, clauses, repetitions),
-        10 => work::length_walk(plan, edges, atoms, clauses, repetitions),
+        2 => work::fill(tables, repetitions),
+        3 => work::walk(tables, repetitions),
+        4 => work::close(tables, repetitions),
+        5 => work::write(tables, repetitions),
+        6 => work::search(tables, repetitions),
+        7 => work::print(tables, repetitions),
+        8 => work::rules(tables, repetitions),
+        9 => work::fill_chains(tables, repetitions),
+        10 => work::length_walk(tables, repetitions),
         _ => 0,
     }
 }

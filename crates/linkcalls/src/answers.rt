@@ -1,259 +1,179 @@
-// One function for each public call: it makes the call and writes the line of its answer, and behind the answer every place of the
-// buffer that was lent. Each says that the program goes on.
+// The calls, and the line of each answer.
+use crate::{BEFORE, MAX_ROOM, Request, Stop};
 use plan::{Plan, Refusal};
-use planner::{
-    CloseAnswer, JudgeAnswer, ReadAnswer, ReadDimacsAnswer, ReasonAnswer, SearchAnswer,
-    WriteAnswer, WriteDimacsAnswer,
-};
+use planner::{Answer, CloseAnswer, Counts, Found, Judgement, Rules};
+use std::fmt::Display;
 use std::io;
-use text::SIZE;
+use std::io::Write;
 
-pub fn read(rt: &impl Print, file: &[u8]) -> io::Result<bool> {
-    let mut out = [0u8; SIZE];
-    let answer = planner::read(file);
-    let next = say_read(rt, &mut out, answer)?;
-    ended(rt, &mut out, next)
+// Makes the call and writes its line. The byte is told here once: an enum between would be a second match.
+pub(crate) fn answer(out: &mut impl Write, request: Request<'_>) -> Result<(), Stop> {
+    let Request {
+        call,
+        file,
+        text,
+        assignment,
+        atom,
+        budget,
+        room,
+    } = request;
+    if room > MAX_ROOM {
+        return Err(Stop::BadRequest);
+    }
+    match call {
+        1 => line(out, planner::read(file))?,
+        2 => line(out, planner::judge(file, assignment))?,
+        3 => lent(
+            out,
+            &mut [BEFORE; MAX_ROOM][..room],
+            |res| planner::close(file, assignment, res),
+        )?,
+        4 => lent(
+            out,
+            &mut [i16::from(BEFORE); MAX_ROOM][..room],
+            |literals| planner::reason(file, assignment, atom, literals),
+        )?,
+        5 => lent(
+            out,
+            &mut [BEFORE; MAX_ROOM][..room],
+            |res| planner::search(file, budget, res),
+        )?,
+        6 => lent(
+            out,
+            &mut [i32::from(BEFORE); MAX_ROOM][..room],
+            |numbers| planner::write_clauses(file, numbers),
+        )?,
+        7 => lent(
+            out,
+            &mut [BEFORE.cast_unsigned(); MAX_ROOM][..room],
+            |bytes| planner::write_dimacs(file, bytes).map(Printed),
+        )?,
+        8 => lent(
+            out,
+            &mut [BEFORE.cast_unsigned(); MAX_ROOM][..room],
+            |bytes| planner::read_dimacs(file, text, bytes),
+        )?,
+        _ => return Err(Stop::BadRequest),
+    }
+    Ok(())
 }
 
-pub fn judge(rt: &impl Print, file: &[u8], assignment: &[i8]) -> io::Result<bool> {
-    let mut out = [0u8; SIZE];
-    let answer = planner::judge(file, assignment);
-    let next = say_judge(rt, &mut out, answer)?;
-    ended(rt, &mut out, next)
+// The line of a call that is lent no buffer.
+fn line(out: &mut impl Write, answer: impl Say) -> io::Result<()> {
+    answer.say(out)?;
+    writeln!(out)
 }
 
-pub fn close(rt: &impl Print, file: &[u8], given: &[i8], res: &mut [i8]) -> io::Result<bool> {
-    let mut out = [0u8; SIZE];
-    let answer = planner::close(file, given, res);
-    let next = say_close(rt, &mut out, answer)?;
-    let next = places8(rt, &mut out, next, res)?;
-    ended(rt, &mut out, next)
+// The line of a call that is lent a buffer: behind the answer every place of it.
+fn lent<T: Display, A: Say, F: FnOnce(&mut [T]) -> Result<A, Refusal>>(
+    out: &mut impl Write,
+    places: &mut [T],
+    call: F,
+) -> io::Result<()>
+    requires { F.IsAlwaysCallable call }
+{
+    call(places).say(out)?;
+    write!(out, " :")?;
+    for place in places {
+        write!(out, " {place}")?;
+    }
+    writeln!(out)
 }
 
-pub fn reason(
-    rt: &impl Print,
-    file: &[u8],
-    assignment: &[i8],
-    atom: usize,
-    literals: &mut [i16],
-) -> io::Result<bool> {
-    let mut out = [0u8; SIZE];
-    let answer = planner::reason(file, assignment, atom, literals);
-    let next = say_reason(rt, &mut out, answer)?;
-    let next = places16(rt, &mut out, next, literals)?;
-    ended(rt, &mut out, next)
+// An answer, in the words of its line. Not `Display`: the answers are types of other crates, and these words are this program's alone.
+trait Say: Copy {
+    fn say(self, out: &mut impl Write) -> io::Result<()>;
 }
 
-pub fn search(rt: &impl Print, file: &[u8], budget: u32, res: &mut [i8]) -> io::Result<bool> {
-    let mut out = [0u8; SIZE];
-    let answer = planner::search(file, budget, res);
-    let next = say_search(rt, &mut out, answer)?;
-    let next = places8(rt, &mut out, next, res)?;
-    ended(rt, &mut out, next)
-}
-
-pub fn write_clauses(rt: &impl Print, file: &[u8], numbers: &mut [i32]) -> io::Result<bool> {
-    let mut out = [0u8; SIZE];
-    let answer = planner::write_clauses(file, numbers);
-    let next = say_write(rt, &mut out, answer)?;
-    let next = places32(rt, &mut out, next, numbers)?;
-    ended(rt, &mut out, next)
-}
-
-pub fn write_dimacs(rt: &impl Print, file: &[u8], bytes: &mut [u8]) -> io::Result<bool> {
-    let mut out = [0u8; SIZE];
-    let answer = planner::write_dimacs(file, bytes);
-    let next = say_write_dimacs(rt, &mut out, answer)?;
-    let next = places_unsigned(rt, &mut out, next, bytes)?;
-    ended(rt, &mut out, next)
-}
-
-pub fn read_dimacs(
-    rt: &impl Print,
-    file: &[u8],
-    text: &[u8],
-    bytes: &mut [u8],
-) -> io::Result<bool> {
-    let mut out = [0u8; SIZE];
-    let answer = planner::read_dimacs(file, text, bytes);
-    let next = say_read_dimacs(rt, &mut out, answer)?;
-    let next = places_unsigned(rt, &mut out, next, bytes)?;
-    ended(rt, &mut out, next)
-}
-
-fn say_read(rt: &impl Print, out: &mut [u8; SIZE], answer: ReadAnswer) -> io::Result<usize> {
-    match answer {
-        ReadAnswer::Refused(why) => refused(rt, out, why),
-        ReadAnswer::Accepted(plan) => accepted(rt, out, plan),
+impl<A: Say> Say for Result<A, Refusal> {
+    fn say(self, out: &mut impl Write) -> io::Result<()> {
+        match self {
+            Ok(answer) => answer.say(out),
+            Err(why) => write!(out, "refused {why}"),
+        }
     }
 }
 
-fn say_judge(rt: &impl Print, out: &mut [u8; SIZE], answer: JudgeAnswer) -> io::Result<usize> {
-    match answer {
-        JudgeAnswer::Refused(why) => refused(rt, out, why),
-        JudgeAnswer::Plan => text::word(rt, out, 0, b"plan"),
-        JudgeAnswer::Clause(number) => counted(rt, out, b"clause", number as u64),
-        JudgeAnswer::Atom(number) => counted(rt, out, b"atom", number as u64),
+impl Say for Plan {
+    fn say(self, out: &mut impl Write) -> io::Result<()> {
+        let Plan {
+            nodes,
+            variables,
+            edges,
+            atoms,
+            clauses,
+            literals,
+        } = self;
+        write!(
+            out,
+            "accepted {nodes} {variables} {edges} {atoms} {clauses} {literals}"
+        )
     }
 }
 
-fn say_close(rt: &impl Print, out: &mut [u8; SIZE], answer: CloseAnswer) -> io::Result<usize> {
-    match answer {
-        CloseAnswer::Refused(why) => refused(rt, out, why),
-        CloseAnswer::Closed => text::word(rt, out, 0, b"closed"),
-        CloseAnswer::Clash => text::word(rt, out, 0, b"clash"),
+impl Say for Judgement {
+    fn say(self, out: &mut impl Write) -> io::Result<()> {
+        match self {
+            Judgement::Plan => write!(out, "plan"),
+            Judgement::Clause(number) => write!(out, "clause {number}"),
+            Judgement::Atom(number) => write!(out, "atom {number}"),
+        }
     }
 }
 
-fn say_reason(rt: &impl Print, out: &mut [u8; SIZE], answer: ReasonAnswer) -> io::Result<usize> {
-    match answer {
-        ReasonAnswer::Refused(why) => refused(rt, out, why),
-        ReasonAnswer::Holds(count) => counted(rt, out, b"holds", count as u64),
-        ReasonAnswer::Fails(count) => counted(rt, out, b"fails", count as u64),
-        ReasonAnswer::Open => text::word(rt, out, 0, b"open"),
+impl Say for CloseAnswer {
+    fn say(self, out: &mut impl Write) -> io::Result<()> {
+        match self {
+            CloseAnswer::Closed => write!(out, "closed"),
+            CloseAnswer::Clash => write!(out, "clash"),
+        }
     }
 }
 
-fn say_search(rt: &impl Print, out: &mut [u8; SIZE], answer: SearchAnswer) -> io::Result<usize> {
-    match answer {
-        SearchAnswer::Refused(why) => refused(rt, out, why),
-        SearchAnswer::Plan(count) => counted(rt, out, b"plan", count as u64),
-        SearchAnswer::Impossible(count) => counted(rt, out, b"impossible", count as u64),
-        SearchAnswer::Undecided(count) => counted(rt, out, b"undecided", count as u64),
+impl Say for Answer {
+    fn say(self, out: &mut impl Write) -> io::Result<()> {
+        match self {
+            Answer::Holds(count) => write!(out, "holds {count}"),
+            Answer::Fails(count) => write!(out, "fails {count}"),
+            Answer::Open => write!(out, "open"),
+        }
     }
 }
 
-fn say_write(rt: &impl Print, out: &mut [u8; SIZE], answer: WriteAnswer) -> io::Result<usize> {
-    match answer {
-        WriteAnswer::Refused(why) => refused(rt, out, why),
-        WriteAnswer::Written(variables, clauses, count) => written(
-            rt, out, variables, clauses, count,
-        ),
+impl Say for Found {
+    fn say(self, out: &mut impl Write) -> io::Result<()> {
+        match self {
+            Found::Plan(branchings) => write!(out, "plan {branchings}"),
+            Found::Impossible(branchings) => write!(out, "impossible {branchings}"),
+            Found::Undecided(branchings) => write!(out, "undecided {branchings}"),
+        }
     }
 }
 
-fn say_write_dimacs(
-    rt: &impl Print,
-    out: &mut [u8; SIZE],
-    answer: WriteDimacsAnswer,
-) -> io::Result<usize> {
-    match answer {
-        WriteDimacsAnswer::Refused(why) => refused(rt, out, why),
-        WriteDimacsAnswer::Printed(bytes) => counted(rt, out, b"printed", bytes as u64),
+impl Say for Counts {
+    fn say(self, out: &mut impl Write) -> io::Result<()> {
+        let Counts {
+            variables,
+            clauses,
+            numbers,
+        } = self;
+        write!(out, "written {variables} {clauses} {numbers}")
     }
 }
 
-fn say_read_dimacs(
-    rt: &impl Print,
-    out: &mut [u8; SIZE],
-    answer: ReadDimacsAnswer,
-) -> io::Result<usize> {
-    match answer {
-        ReadDimacsAnswer::Refused(why) => refused(rt, out, why),
-        ReadDimacsAnswer::Rules(clauses, literals) => ruled(rt, out, clauses, literals),
+impl Say for Rules {
+    fn say(self, out: &mut impl Write) -> io::Result<()> {
+        let Rules { clauses, literals } = self;
+        write!(out, "rules {clauses} {literals}")
     }
 }
 
-fn refused(rt: &impl Print, out: &mut [u8; SIZE], why: Refusal) -> io::Result<usize> {
-    text::refusal(rt, out, 0, b"refused", why)
-}
+// How many bytes `write_dimacs` wrote.
+#[derive(Clone, Copy)]
+struct Printed(usize);
 
-fn accepted(rt: &impl Print, out: &mut [u8; SIZE], plan: Plan) -> io::Result<usize> {
-    let mut next = text::word(rt, out, 0, b"accepted")?;
-    next = text::field(rt, out, next, plan.nodes as u64)?;
-    next = text::field(rt, out, next, plan.variables as u64)?;
-    next = text::field(rt, out, next, plan.edges as u64)?;
-    next = text::field(rt, out, next, plan.atoms as u64)?;
-    next = text::field(rt, out, next, plan.clauses as u64)?;
-    text::field(rt, out, next, plan.literals as u64)
-}
-
-fn written(
-    rt: &impl Print,
-    out: &mut [u8; SIZE],
-    variables: usize,
-    clauses: usize,
-    numbers: usize,
-) -> io::Result<usize> {
-    let mut next = text::word(rt, out, 0, b"written")?;
-    next = text::field(rt, out, next, variables as u64)?;
-    next = text::field(rt, out, next, clauses as u64)?;
-    text::field(rt, out, next, numbers as u64)
-}
-
-fn ruled(
-    rt: &impl Print,
-    out: &mut [u8; SIZE],
-    clauses: usize,
-    literals: usize,
-) -> io::Result<usize> {
-    let next = counted(rt, out, b"rules", clauses as u64)?;
-    text::field(rt, out, next, literals as u64)
-}
-
-// An answer's name and its number.
-fn counted(rt: &impl Print, out: &mut [u8; SIZE], name: &[u8], number: u64) -> io::Result<usize> {
-    let next = text::word(rt, out, 0, name)?;
-    text::field(rt, out, next, number)
-}
-
-fn places8(rt: &impl Print, out: &mut [u8; SIZE], at: usize, places: &[i8]) -> io::Result<usize> {
-    let mut next = text::word(rt, out, at, b" :")?;
-    for i in 0..places.len() {
-        next = place(rt, out, next, wide8(places[i]))?;
+impl Say for Printed {
+    fn say(self, out: &mut impl Write) -> io::Result<()> {
+        write!(out, "printed {}", self.0)
     }
-    Ok(next)
-}
-
-fn places16(rt: &impl Print, out: &mut [u8; SIZE], at: usize, places: &[i16]) -> io::Result<usize> {
-    let mut next = text::word(rt, out, at, b" :")?;
-    for i in 0..places.len() {
-        next = place(rt, out, next, wide16(places[i]))?;
-    }
-    Ok(next)
-}
-
-fn places32(rt: &impl Print, out: &mut [u8; SIZE], at: usize, places: &[i32]) -> io::Result<usize> {
-    let mut next = text::word(rt, out, at, b" :")?;
-    for i in 0..places.len() {
-        next = place(rt, out, next, places[i])?;
-    }
-    Ok(next)
-}
-
-fn places_unsigned(
-    rt: &impl Print,
-    out: &mut [u8; SIZE],
-    at: usize,
-    places: &[u8],
-) -> io::Result<usize> {
-    let mut next = text::word(rt, out, at, b" :")?;
-    for i in 0..places.len() {
-        next = text::field(rt, out, next, wide(places[i]))?;
-    }
-    Ok(next)
-}
-
-fn wide(value: u8) -> u64 {
-    value as u64
-}
-
-fn wide8(value: i8) -> i32 {
-    value as i32
-}
-
-fn wide16(value: i16) -> i32 {
-    value as i32
-}
-
-fn place(rt: &impl Print, out: &mut [u8; SIZE], at: usize, value: i32) -> io::Result<usize> {
-    let next = text::byte(rt, out, at, b' ')?;
-    text::signed(rt, out, next, value)
-}
-
-// The end of a line.
-fn ended(rt: &impl Print, out: &mut [u8; SIZE], at: usize) -> io::Result<bool> {
-    let next = text::byte(rt, out, at, b'\n')?;
-    text::flush(rt, out, next)?;
-    Ok(true)
 }

@@ -2,12 +2,9 @@
 // its largest block.
 #![tactic(auto)]
 
-ghost use Rattle.std.specs.Prelude.{◌≤◌, length};
-ghost use Rattle.plan.specs.Tables.{Lent};
-
 use listing::PART;
-use plan::{Atom, Clause, Edge, Plan, Refusal};
-use reader::ReadAnswer;
+use plan::{Refusal, Tables};
+use reader::Buffers;
 use std::io;
 use text::INPUT;
 
@@ -18,62 +15,23 @@ fn main(rt: HostRuntime) -> io::Result<()> {
 }
 
 fn report(rt: &impl Print, file: &[u8]) -> io::Result<()> {
-    let mut edges = [0u16; Edge::TABLE];
-    let mut atoms = [0u16; Atom::TABLE];
-    let mut clauses = [0i16; Clause::TABLE];
-    let reading = reader::read_into(file, &mut edges, &mut atoms, &mut clauses);
-    match reading {
-        ReadAnswer::Refused(why) => text::refuse(rt, why),
-        ReadAnswer::Accepted(plan) => printed(
-            rt,
-            plan,
-            reader::used_edges(plan, &edges),
-            reader::used_atoms(plan, &atoms),
-            reader::used_clauses(plan, &clauses),
-        ),
+    let mut buffers = Buffers::new();
+    match buffers.read(file) {
+        Err(why) => println!(rt; "r {why}"),
+        Ok(tables) => printed(rt, &tables),
     }
 }
 
-fn printed(
-    rt: &impl Print,
-    plan: Plan,
-    edges: &[u16],
-    atoms: &[u16],
-    clauses: &[i16],
-) -> io::Result<()>
-    requires { Lent plan edges.now atoms.now clauses.now }
-{
-    let unwritten = clauses::first_unwritten(atoms);
-    if unwritten != plan.atoms {
-        return text::refuse(rt, Refusal::NoBlock(unwritten + 1));
+fn printed(rt: &impl Print, tables: &Tables) -> io::Result<()> {
+    if let Some(atom) = clauses::first_unwritten(tables.atoms) {
+        let why = Refusal::NoBlock(atom + 1);
+        return println!(rt; "r {why}");
     }
     let mut out = [0u8; PART];
-    parts(rt, plan, edges, atoms, clauses, &mut out)
-}
-
-// The parts of the text, one behind the other.
-fn parts(
-    rt: &impl Print,
-    plan: Plan,
-    edges: &[u16],
-    atoms: &[u16],
-    clauses: &[i16],
-    out: &mut [u8; PART],
-) -> io::Result<()>
-    requires { Lent plan edges.now atoms.now clauses.now }
-{
-    let mut k = 0;
-    while k <= plan.atoms {
-        let end = listing::print_part(out, 0, plan, edges, atoms, clauses, k);
-        write_front(rt, out, end)?;
-        k += 1;
+    // The parts of the text, one behind the other: the front, and each atom's.
+    for k in 0..=tables.plan.atoms {
+        let end = listing::print_part(&mut out, 0, tables, k);
+        rt.write_all(&out[..end])?;
     }
     Ok(())
-}
-
-// Writes what stands before `end`: a part is never longer than the buffer.
-fn write_front(rt: &impl Print, out: &[u8], end: usize) -> io::Result<()>
-    requires { end ≤ length out.now }
-{
-    rt.write_all(&out[..end])
 }

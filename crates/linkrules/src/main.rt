@@ -5,7 +5,6 @@ ghost use Rattle.std.specs.Io.{ReadsAtMost};
 ghost use Rattle.std.specs.Prelude.{◌≤◌, length};
 
 use plan::Clause;
-use planner::ReadDimacsAnswer;
 use std::env::Env;
 use std::fs::File;
 use std::io::{ErrorKind, Read};
@@ -38,10 +37,10 @@ fn main(rt: HostRuntime) -> io::Result<()> {
 
 // Opens the plan file. A name that is not text opens none, since a path is text.
 fn opened<R: Files>(rt: &R, name: &[u8]) -> io::Result<R::File> {
-    match str::from_utf8(name) {
-        Ok(name) => File::open(rt, name),
-        Err(_) => Err(io::Error::new(ErrorKind::InvalidInput, "its name is not UTF-8")),
-    }
+    let Ok(name) = str::from_utf8(name) else {
+        return Err(io::Error::new(ErrorKind::InvalidInput, "its name is not UTF-8"));
+    };
+    File::open(rt, name)
 }
 
 // Reads the plan file. A folder can be opened too, and is read as an empty file.
@@ -57,50 +56,32 @@ fn read_plan(plan: &mut impl Read, file: &mut [u8]) -> io::Result<usize>
 // Goes on with the plan file.
 fn with_file(rt: &(impl Input + Print + Eprint), file: &[u8]) -> io::Result<()> {
     let mut text = [0u8; TEXT];
-    with_room(rt, file, &mut text)
+    with_room(rt, file, text.as_mut_slice())
 }
 
-// Reads the text.
-fn with_room(
-    rt: &(impl Input + Print + Eprint),
-    file: &[u8],
-    text: &mut [u8; TEXT],
-) -> io::Result<()> {
+// Reads the text. The room comes as a slice, since a check of parts of so long an array takes minutes.
+fn with_room(rt: &(impl Input + Print + Eprint), file: &[u8], text: &mut [u8]) -> io::Result<()> {
     let size = text::read_full(&mut rt.reader(), text)?;
-    if size == TEXT {
+    if size == text.len() {
         return eprintln!(rt; "linkrules: the text is longer than 1048576 bytes");
     }
-    with_text(rt, file, text, size)
-}
-
-// Goes on with the text, the first `size` bytes.
-fn with_text(rt: &impl Print, file: &[u8], text: &[u8], size: usize) -> io::Result<()>
-    requires { size ≤ length text.now }
-{
     report(rt, file, &text[..size])
 }
 
 fn report(rt: &impl Print, file: &[u8], text: &[u8]) -> io::Result<()> {
     let mut records = [0u8; RECORDS];
-    let answer = planner::read_dimacs(file, text, &mut records);
-    match answer {
-        ReadDimacsAnswer::Refused(why) => text::refuse(rt, why),
-        ReadDimacsAnswer::Rules(clauses, literals) => joined(
-            rt,
-            file,
-            &records,
-            clauses * 3 + literals * 2,
-        ),
+    match planner::read_dimacs(file, text, &mut records) {
+        Err(why) => println!(rt; "r {why}"),
+        Ok(rules) => joined(rt, file, &records[..rules.clauses * 3 + rules.literals * 2]),
     }
 }
 
 // The records stand before the file's end record.
-fn joined(rt: &impl Print, file: &[u8], records: &[u8], used: usize) -> io::Result<()>
-    requires in_bounds { 3 ≤ length file.now }
-    requires used_in_bounds { used ≤ length records.now }
+fn joined(rt: &impl Print, file: &[u8], records: &[u8]) -> io::Result<()>
+    requires { 3 ≤ length file.now }
 {
-    let end = file.len() - END;
-    rt.write_all(&file[..end])?;
-    rt.write_all(&records[..used])?;
-    rt.write_all(&file[end..])
+    let (front, end) = file.split_at(file.len() - END);
+    rt.write_all(front)?;
+    rt.write_all(records)?;
+    rt.write_all(end)
 }

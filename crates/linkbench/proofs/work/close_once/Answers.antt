@@ -2,6 +2,5 @@
 use Rattle.search.proofs.Firsts.{opened}
 use Rattle.linkbench.proofs.work.close_once.Goals as goal
 
-pub close-clash-requires-clause-assigned : goal.close-clash-requires-clause-assigned
-close-clash-requires-clause-assigned c =
-    (opened _ _ _ c.requires.ranged.variables c.wide-n.ensures c.all_open-open.ensures).shape
+pub close-requires : goal.close-requires
+close-requires c = (opened _ _ _ c.args.tables.now.lent.ranged.variables c.from.ensures c.all_open-open.ensures).shape
