@@ -8,8 +8,9 @@ ghost use Rattle.dimacs.specs.Scanning.{left, as_option, used, Tallied, OneMore,
 
 use crate::head::{BadText, Head};
 use crate::numbers::number_in;
+use crate::own::Own;
 use crate::words::next_word;
-use plan::{Clause, Plan};
+use plan::Clause;
 
 // The clauses that are ended, and their literals. Where the first of them starts with which there are too many clauses or literals, if there is one. Of the
 // clause that is not ended where it starts and how many literals it has.
@@ -53,41 +54,38 @@ impl Tally {
     }
 
     // Whether the clause that is not ended fits beside the plan's own and those before it.
-    fn fits(self, plan: Plan) -> bool
-        requires clauses_le_max_clauses { (plan.clauses ≤ max_clauses) × (plan.literals ≤ max_literals) }
-        requires unended_bound { self.literals + self.unended < 18446744073709551616 }
-        ensures { result ≡ ltb (plan.clauses + self.clauses) max_clauses && leb (plan.literals + self.literals + self.unended) max_literals }
+    fn fits(self, own: Own) -> bool
+        requires { self.literals + self.unended < 18446744073709551616 }
+        ensures { result ≡ ltb (own.clauses + self.clauses) max_clauses && leb (own.literals + self.literals + self.unended) max_literals }
     {
-        if self.clauses >= Clause::MAX - plan.clauses {
+        if self.clauses >= Clause::MAX - own.clauses {
             return false;
         }
-        self.literals + self.unended <= Clause::MAX_LITERALS - plan.literals
+        self.literals + self.unended <= Clause::MAX_LITERALS - own.literals
     }
 
     // Where the first clause that is too much starts, with the clause that the word at `at` ends.
-    fn past_with(self, plan: Plan, at: usize) -> Option<usize>
+    fn past_with(self, own: Own, at: usize) -> Option<usize>
         requires tally_bound { used self + 1 < 18446744073709551616 }
-        requires clauses_le_max_clauses { (plan.clauses ≤ max_clauses) × (plan.literals ≤ max_literals) }
-        ensures { (done : List Rule) (r : Rule) (before after : List ℤ) → Tallied plan.clauses plan.literals done r before after self → as_option result ≡ first_over plan.clauses plan.literals (done ++ (ended_at r at ∷ [])) }
+        ensures { (done : List Rule) (r : Rule) (before after : List ℤ) → Tallied own.clauses own.literals done r before after self → as_option result ≡ first_over own.clauses own.literals (done ++ (ended_at r at ∷ [])) }
     {
         match self.past {
             Some(past) => Some(past),
-            None if self.fits(plan) => None,
+            None if self.fits(own) => None,
             None => Some(self.first_word(at)),
         }
     }
 
     // The clause is ended by the word at `at`, and its 0 stands in the table.
-    fn with_end(self, plan: Plan, at: usize) -> Tally
+    fn with_end(self, own: Own, at: usize) -> Tally
         requires tally_bound { used self + 1 < 18446744073709551616 }
-        requires clauses_le_max_clauses { (plan.clauses ≤ max_clauses) × (plan.literals ≤ max_literals) }
         ensures result_value { used result ≡ used self + 1 }
-        ensures tallied { (done : List Rule) (r : Rule) (before mid after : List ℤ) → Tallied plan.clauses plan.literals done r before mid self → Laid (pos 0 ∷ []) (used self) mid after (used self + 1) → Tallied plan.clauses plan.literals (done ++ (ended_at r at ∷ [])) nothing before after result }
+        ensures tallied { (done : List Rule) (r : Rule) (before mid after : List ℤ) → Tallied own.clauses own.literals done r before mid self → Laid (pos 0 ∷ []) (used self) mid after (used self + 1) → Tallied own.clauses own.literals (done ++ (ended_at r at ∷ [])) nothing before after result }
     {
         Tally {
             clauses: self.clauses + 1,
             literals: self.literals + self.unended,
-            past: self.past_with(plan, at),
+            past: self.past_with(own, at),
             start: at,
             unended: 0,
         }
@@ -110,14 +108,13 @@ fn turn_by(
     number: Option<i32>,
     at: usize,
     variables: u32,
-    plan: Plan,
+    own: Own,
     table: &mut [i16],
 ) -> Result<Tally, BadText>
     requires tally_bound { used tally + 1 < 18446744073709551616 }
-    requires clauses_le_max_clauses { (plan.clauses ≤ max_clauses) × (plan.literals ≤ max_literals) }
     requires variables_le_max_variables { 0 < length table.old → variables ≤ max_variables }
     ensures one_more { OneMore tally result }
-    ensures turn_is { (done : List Rule) (r : Rule) (before : List ℤ) → Tallied plan.clauses plan.literals done r before table.old tally → TurnIs plan.clauses plan.literals at before table.new (taken variables done r at (as_option number)) result }
+    ensures turn_is { (done : List Rule) (r : Rule) (before : List ℤ) → Tallied own.clauses own.literals done r before table.old tally → TurnIs own.clauses own.literals at before table.new (taken variables done r at (as_option number)) result }
 {
     let Some(number) = number else {
         return Err(BadText { at });
@@ -130,21 +127,20 @@ fn turn_by(
     if number != 0 {
         return Ok(tally.with_literal(at));
     }
-    Ok(tally.with_end(plan, at))
+    Ok(tally.with_end(own, at))
 }
 
 // All words behind the `p` line.
-pub fn scan(text: &[u8], head: Head, plan: Plan, table: &mut [i16]) -> Result<Tally, BadText>
+pub fn scan(text: &[u8], head: Head, own: Own, table: &mut [i16]) -> Result<Tally, BadText>
     requires end_in_bounds { head.end ≤ length text.now }
-    requires clauses_le_max_clauses { (plan.clauses ≤ max_clauses) × (plan.literals ≤ max_literals) }
     requires variables_le_max_variables { 0 < length table.old → head.variables ≤ max_variables }
-    ensures { ScanIs plan.clauses plan.literals table.old table.new (Reading·clauses (length text.now) head.at head.variables head.count [] nothing (left (between false) text.now head.end)) result }
+    ensures { ScanIs own.clauses own.literals table.old table.new (Reading·clauses (length text.now) head.at head.variables head.count [] nothing (left (between false) text.now head.end)) result }
 {
     let mut tally = Tally::NOTHING;
     let mut at = head.end;
     while let Some(word) = next_word(text, at, false) {
         let number = number_in(&text[word.start..word.end]);
-        tally = turn_by(tally, number, word.start, head.variables, plan, table)?;
+        tally = turn_by(tally, number, word.start, head.variables, own, table)?;
         at = word.end;
     }
     if tally.unended > 0 {

@@ -4,6 +4,7 @@
 mod clauses;
 mod head;
 mod numbers;
+mod own;
 mod printing;
 mod records;
 mod words;
@@ -16,6 +17,7 @@ ghost use Rattle.dimacs.specs.Scanning.{Tallied, RulesAre};
 
 use clauses::{Tally, scan};
 use head::{Head, head_of};
+use own::Own;
 use plan::{Plan, Refusal};
 pub use printing::Printer;
 pub use records::put_records;
@@ -40,7 +42,11 @@ pub fn read_rules(plan: Plan, text: &[u8], table: &mut [i16]) -> Result<Rules, R
     } else {
         0
     };
-    let tally = scan(text, head, plan, &mut table[..room])?;
+    let own = Own {
+        clauses: plan.clauses,
+        literals: plan.literals,
+    };
+    let tally = scan(text, head, own, &mut table[..room])?;
     judged(plan, head, tally)
 }
 

@@ -12,7 +12,7 @@ loop-word-init c =
       c.requires.end_in_bounds,
       omega arith,
       refl,
-      begins a.plan.clauses a.plan.literals a.text.now a.head.at a.head.variables a.head.count a.table.now a.head.end,
+      begins a.own.clauses a.own.literals a.text.now a.head.at a.head.variables a.head.count a.table.now a.head.end,
     )
 
 pub returns-then-tally-gt0 : goal.returns-then-tally-gt0

@@ -14,7 +14,7 @@ invariant-loop-word l =
     (l.at ≤ length l.text)
     × (l.tally.literals + l.tally.clauses + l.tally.unended ≤ l.at)
     × (length l.table ≡ length l.initial.table)
-    × Underway l.plan.clauses l.plan.literals l.text l.head.at l.head.variables l.head.count
+    × Underway l.own.clauses l.own.literals l.text l.head.at l.head.variables l.head.count
     (clauses (length l.text) l.head.at l.head.variables l.head.count [] nothing (left (between false) l.text l.head.end)) l.initial.table l.table l.tally l.at
 
 abbrev pub decreases-loop-word : goal.decreases-loop-word
