@@ -4,20 +4,21 @@
 mod block;
 mod parts;
 mod shape;
+mod sizes;
 mod writer;
 
 ghost use Rattle.std.specs.Prelude.{◌≡◌, ◌≤◌, ◌<◌, length, MatchOption};
 ghost use Rattle.plan.specs.File.{file_of};
 ghost use Rattle.plan.specs.Tables.{atoms_of, atom_of};
-ghost use Rattle.plan.specs.Written.{has_block, first_unwritten, levels, block_variables, block_clauses, block_numbers};
+ghost use Rattle.plan.specs.Written.{has_block, first_unwritten, levels};
 ghost use Rattle.plan.specs.Front.{Room, Put};
-ghost use Rattle.encoding.specs.Counts.{InLimits};
 ghost use Rattle.clauses.specs.Writing.{Counting, Writes, AddedOne, Few, file_blocks};
 
 use block::put_block;
 pub use block::{Level, put_end, put_level, put_start};
 use plan::{Atom, Kind, Short, Tables};
 pub use shape::Shape;
+pub use sizes::Sizes;
 pub use writer::Writer;
 
 // How much is written.
@@ -31,15 +32,14 @@ pub struct Counts {
 impl Counts {
     // The counts with one block more.
     #[tactic(auto, using(encoding::proofs::Sizes::block_variables_most, encoding::proofs::Sizes::block_clauses_most, encoding::proofs::Sizes::block_numbers_most))]
-    fn with_block(self, nodes: usize, edges: usize, top: usize) -> Counts
-        requires in_limits { InLimits nodes edges top }
-        requires few { Few self }
-        ensures { AddedOne nodes edges top self result }
+    fn with_block(self, sizes: Sizes) -> Counts
+        requires { Few self }
+        ensures { AddedOne sizes.nodes sizes.edges sizes.top self result }
     {
         Counts {
-            variables: self.variables + block_variables(nodes, edges, top),
-            clauses: self.clauses + block_clauses(nodes, edges, top),
-            numbers: self.numbers + block_numbers(nodes, edges, top),
+            variables: self.variables + sizes.variables(),
+            clauses: self.clauses + sizes.clauses(),
+            numbers: self.numbers + sizes.numbers(),
         }
     }
 }
@@ -77,30 +77,6 @@ pub fn first_unwritten(atoms: &[Atom]) -> Option<usize>
     atoms.iter().position(|atom| !has_block(atom.kind))
 }
 
-#[tactic(auto, using(encoding::proofs::Sizes::block_variables_most), unfolding(plan::specs::Written::block_variables))]
-pub fn block_variables(nodes: usize, edges: usize, top: usize) -> usize
-    requires { InLimits nodes edges top }
-    ensures { result ≡ block_variables nodes edges top }
-{
-    (top + 1) * nodes + top * edges
-}
-
-#[tactic(auto, using(encoding::proofs::Sizes::block_clauses_most), unfolding(plan::specs::Written::block_clauses))]
-fn block_clauses(nodes: usize, edges: usize, top: usize) -> usize
-    requires { InLimits nodes edges top }
-    ensures { result ≡ block_clauses nodes edges top }
-{
-    nodes + top * (4 * edges + 2 * nodes) + 2
-}
-
-#[tactic(auto, using(encoding::proofs::Sizes::block_numbers_most), unfolding(plan::specs::Written::block_numbers))]
-fn block_numbers(nodes: usize, edges: usize, top: usize) -> usize
-    requires { InLimits nodes edges top }
-    ensures { result ≡ block_numbers nodes edges top }
-{
-    2 * nodes + top * (14 * edges + 6 * nodes) + 6
-}
-
 // The blocks of the atoms, each into the rest of the buffer behind the one before it.
 fn put_blocks(out: &mut [i32], at: usize, tables: &Tables) -> usize
     requires { Room (file_blocks (file_of tables.now)) at out.old }
@@ -120,7 +96,12 @@ fn put_blocks(out: &mut [i32], at: usize, tables: &Tables) -> usize
             top,
         };
         end += put_block(&mut out[end..], &shape, *atom);
-        last += block_variables(nodes, edges.len(), top);
+        let sizes = Sizes {
+            nodes,
+            edges: edges.len(),
+            top,
+        };
+        last += sizes.variables();
     }
     end
 }
@@ -149,7 +130,12 @@ pub fn counts_of(tables: &Tables) -> Counts
         numbers: tables.clauses.len(),
     };
     for atom in tables.atoms {
-        counts = counts.with_block(nodes, edges, levels_of(nodes, *atom));
+        let sizes = Sizes {
+            nodes,
+            edges,
+            top: levels_of(nodes, *atom),
+        };
+        counts = counts.with_block(sizes);
     }
     counts
 }

@@ -14,7 +14,7 @@ ghost use Rattle.listing.specs.Text.{text, part};
 ghost use Rattle.listing.specs.Parts.{Soon, Prints};
 
 use block::print_block;
-use clauses::{Shape, block_variables, counts_of, levels_of};
+use clauses::{Shape, Sizes, counts_of, levels_of};
 use dimacs::Printer;
 use plan::{Short, Tables};
 
@@ -30,8 +30,12 @@ fn last_before(tables: &Tables, k: usize) -> usize
     let edges = tables.edges.len();
     let mut last = usize::from(tables.plan.variables);
     for atom in &tables.atoms[..k] {
-        let top = levels_of(nodes, *atom);
-        last += block_variables(nodes, edges, top);
+        let sizes = Sizes {
+            nodes,
+            edges,
+            top: levels_of(nodes, *atom),
+        };
+        last += sizes.variables();
     }
     last
 }

@@ -27,24 +27,24 @@ put_block-end-requires c =
     let turn = turn_of t.lent c.from-nodes.ensures c.loop-atom-test.true c.loop-atom.invariant.1 c.levels_of-top.ensures in
     rw c.from-nodes.ensures (room_tail _ _ (room_as (sym (next_row turn)) (filling_room c.loop-atom.invariant.0 turn.inside)))
 
-pub block_variables-last-requires : goal.block_variables-last-requires
-block_variables-last-requires c =
+pub invariant_of-sizes : goal.invariant_of-sizes
+invariant_of-sizes c =
     let t = c.args.tables.now in
     let turn = turn_of t.lent c.from-nodes.ensures c.loop-atom-test.true c.loop-atom.invariant.1 c.levels_of-top.ensures in
-    rw (c.from-nodes.ensures, ← edges_length t.edges.now) (next_limits turn)
+    record { in_limits = rw (c.from-nodes.ensures, ← edges_length t.edges.now) (next_limits turn) }
 
 pub overflow_add-last : goal.overflow_add-last
 overflow_add-last c =
     let t = c.args.tables.now in
     let turn = turn_of t.lent c.from-nodes.ensures c.loop-atom-test.true c.loop-atom.invariant.1 c.levels_of-top.ensures in
-    let variables = c.block_variables-last.ensures ∙ ap₂ (λ n m. block_variables n m c.levels_of-top.result) c.from-nodes.ensures (sym (edges_length t.edges.now)) in
+    let variables = c.variables-last.ensures ∙ ap₂ (λ n m. block_variables n m c.levels_of-top.result) c.from-nodes.ensures (sym (edges_length t.edges.now)) in
     omega (arith, next_last turn, variables)
 
 pub loop-atom-preserved : goal.loop-atom-preserved
 loop-atom-preserved c =
     let t = c.args.tables.now in
     let turn = turn_of t.lent c.from-nodes.ensures c.loop-atom-test.true c.loop-atom.invariant.1 c.levels_of-top.ensures in
-    let variables = c.block_variables-last.ensures ∙ ap₂ (λ n m. block_variables n m c.levels_of-top.result) c.from-nodes.ensures (sym (edges_length t.edges.now)) in
+    let variables = c.variables-last.ensures ∙ ap₂ (λ n m. block_variables n m c.levels_of-top.result) c.from-nodes.ensures (sym (edges_length t.edges.now)) in
     let l = c.loop-atom in
     let block = rw c.from-nodes.ensures at c.put_block-end.ensures in (
       filling_turn l.invariant.0 turn.inside (put_as (next_row turn) (put_tail _ _ (omega (arith, l.invariant.0.put.inside, l.invariant.0.same)) block)),

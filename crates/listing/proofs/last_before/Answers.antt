@@ -17,30 +17,30 @@ pub loop-atom-init : goal.loop-atom-init
 unfolding last
 loop-atom-init c = c.from-last.ensures
 
-pub block_variables-last-requires : goal.block_variables-last-requires
-block_variables-last-requires c =
+pub invariant_of-sizes : goal.invariant_of-sizes
+invariant_of-sizes c =
     let t = c.args.tables.now in
     let inside : c.loop-atom.atom-index < c.args.k = omega (arith, length-take c.args.k t.atoms.now) in
-    let levels = rw get_or-take at c.levels_of-top.ensures in
+    let levels = rw get_or-take at c.levels_of.ensures in
     let turn = turn_of t.lent c.from-nodes.ensures (omega (arith, atoms_length t.atoms.now)) c.loop-atom.invariant levels in
-    rw (c.from-nodes.ensures, ← edges_length t.edges.now) (next_limits turn)
+    record { in_limits = rw (c.from-nodes.ensures, ← edges_length t.edges.now) (next_limits turn) }
 
 pub overflow_add-last : goal.overflow_add-last
 overflow_add-last c =
     let t = c.args.tables.now in
     let inside : c.loop-atom.atom-index < c.args.k = omega (arith, length-take c.args.k t.atoms.now) in
-    let levels = rw get_or-take at c.levels_of-top.ensures in
+    let levels = rw get_or-take at c.levels_of.ensures in
     let turn = turn_of t.lent c.from-nodes.ensures (omega (arith, atoms_length t.atoms.now)) c.loop-atom.invariant levels in
-    let variables = c.block_variables-last.ensures ∙ ap₂ (λ n m. block_variables n m c.levels_of-top.result) c.from-nodes.ensures (sym (edges_length t.edges.now)) in
+    let variables = c.variables-last.ensures ∙ ap₂ (λ n m. block_variables n m c.levels_of.result) c.from-nodes.ensures (sym (edges_length t.edges.now)) in
     omega (arith, next_last turn, variables)
 
 pub loop-atom-preserved : goal.loop-atom-preserved
 loop-atom-preserved c =
     let t = c.args.tables.now in
     let inside : c.loop-atom.atom-index < c.args.k = omega (arith, length-take c.args.k t.atoms.now) in
-    let levels = rw get_or-take at c.levels_of-top.ensures in
+    let levels = rw get_or-take at c.levels_of.ensures in
     let turn = turn_of t.lent c.from-nodes.ensures (omega (arith, atoms_length t.atoms.now)) c.loop-atom.invariant levels in
-    let variables = c.block_variables-last.ensures ∙ ap₂ (λ n m. block_variables n m c.levels_of-top.result) c.from-nodes.ensures (sym (edges_length t.edges.now)) in
+    let variables = c.variables-last.ensures ∙ ap₂ (λ n m. block_variables n m c.levels_of.result) c.from-nodes.ensures (sym (edges_length t.edges.now)) in
     ap (λ v. c.loop-atom.last + v) variables ∙ next_before turn
 
 pub returns : goal.returns
