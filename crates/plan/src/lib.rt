@@ -6,7 +6,7 @@ mod refusal;
 mod tables;
 
 ghost use Rattle.std.specs.Prelude.{◌≡◌, ◌≤◌, pos, negsuc, neg_ℤ, nat_abs, length, take, replicate};
-ghost use Rattle.plan.specs.Meaning.{add, number_of_kind, measure_of, cost_by, literal_of, true_in};
+ghost use Rattle.plan.specs.Meaning.{add, number_of_kind, kind_of, measure_of, cost_by, literal_of, true_in};
 ghost use Rattle.plan.specs.Closing.{settling};
 ghost use Rattle.plan.specs.Search.{Assigned};
 ghost use Rattle.plan.specs.Ranged.{LiteralFits};
@@ -38,12 +38,23 @@ impl TryFrom<u16> for Kind {
     ghost try_from_gives = { Decodes };
 
     fn try_from(number: u16) -> Result<Self, UnknownKind> {
-        match number {
-            1 => Ok(Kind::Reaches),
-            2 => Ok(Kind::Within),
-            3 => Ok(Kind::LengthAtMost),
-            _ => Err(UnknownKind(number)),
+        let kind = kind_of(number);
+        if u16::from(kind) == number {
+            Ok(kind)
+        } else {
+            Err(UnknownKind(number))
         }
+    }
+}
+
+// The kind of any number, as the format's definition has it: of one that no kind has, kind 3. It cannot fail, where `try_from` does.
+pub fn kind_of(number: u16) -> Kind
+    ensures { result ≡ kind_of number }
+{
+    match number {
+        1 => Kind::Reaches,
+        2 => Kind::Within,
+        _ => Kind::LengthAtMost,
     }
 }
 
@@ -143,6 +154,12 @@ pub struct Edge {
 impl Edge {
     pub const MAX_LENGTH: u16 = 65535;
 
+    // How many numbers an edge has.
+    pub const NUMBERS: usize = 4;
+
+    // How many places a table of edges has.
+    pub const TABLE: usize = Plan::MAX_EDGES;
+
     // What stands in a place of a table that is not used.
     pub const NONE: Edge = Edge {
         from: 0,
@@ -177,6 +194,12 @@ impl Atom {
     pub const MAX_BOUND: u16 = 255;
 
     pub const MAX_LENGTH_BOUND: u16 = 65535;
+
+    // How many numbers an atom has.
+    pub const NUMBERS: usize = 5;
+
+    // How many places a table of atoms has.
+    pub const TABLE: usize = Atom::MAX;
 
     // What stands in a place of a table that is not used.
     pub const NONE: Atom = Atom {

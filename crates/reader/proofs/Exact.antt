@@ -1,11 +1,11 @@
 -- The definition needs no count of turns, and no second answer fits the reader's contract.
 -- Assumes nothing.
-use Rattle.reader.proofs.Kit.{◌≡◌, refl, sym, ap, ◌∙◌, List, [], ◌∷◌, ℕ, zero, suc, ◌+◌, ◌<◌, ◌≤◌, arith, length, take}
+use Rattle.reader.proofs.Kit.{◌≡◌, refl, sym, ap, ◌∙◌, subst, List, [], ◌∷◌, ℕ, zero, suc, ◌+◌, ◌<◌, ◌≤◌, arith, length, take}
 use mathlib.Core.Path.{ap₂}
 use mathlib.Core.List.{map}
 use Rattle.std.specs.Prelude.{Result, Ok, Err}
 use Rattle.plan.specs.Meaning.{PlanFile}
-use Rattle.plan.specs.Ranged.{literals}
+use Rattle.plan.specs.Ranged.{max_nodes, max_variables, max_edges, max_atoms, max_clauses, max_literals, literals, Ranged}
 use Rattle.plan.specs.Written.{flat}
 use Rattle.plan.specs.Tables.{edge_of, atom_of, edges_of, atoms_of}
 use Rattle.plan.specs.File.{file_of}
@@ -18,8 +18,10 @@ use Rattle.plan.proofs.ByPlace.{edges_length, atoms_length}
 use Rattle.plan.proofs.Refusals.{one_refusal}
 use Rattle.reader.specs.declared.Buffers.{Buffers}
 use Rattle.reader.specs.Format.{Step, refuse, next, done, Reading, refused, accepted, onward, step_at, head_at, records, read_plan}
-use Rattle.reader.specs.Filling.{Tables}
+use Rattle.reader.specs.Filling.{Tables, Answers}
 use Rattle.reader.specs.Reads.{Reads}
+use Rattle.reader.specs.Ready.{Room}
+use Rattle.reader.proofs.Accepts.{read_ranged}
 use Rattle.reader.proofs.Cases.{head_by, step_by, edge_by, atom_by, clause_by}
 
 -- a step goes forward, and stays in the file
@@ -144,3 +146,29 @@ one_filling p c b b' t u = (
   same_atoms _ _ (t.atoms.stand ∙ sym u.atoms.stand),
   t.written ∙ sym u.written,
 )
+
+-- the counts of a plan file in range
+pub room_of : {p : PlanFile} {c : counted.Plan} {b : Buffers} → Ranged p → Tables p c b → Room c
+room_of r t = record {
+  nodes = subst (λ n. n ≤ max_nodes) t.nodes r.nodes;
+  variables = subst (λ n. n ≤ max_variables) t.variables r.variables;
+  edges = subst (λ n. n ≤ max_edges) t.edges.count r.edges;
+  atoms = subst (λ n. n ≤ max_atoms) t.atoms.count r.atoms;
+  clauses = subst (λ n. n ≤ max_clauses) t.clauses r.clauses;
+  literals = subst (λ n. n ≤ max_literals) t.literals r.literals;
+}
+
+-- what a caller has of an accepted file: its plan, in range, in the tables, and the counts within the tables' room
+pub record Given (f : List ℕ) (c : counted.Plan) (b : Buffers) : Type 0 where
+  pub plan : PlanFile
+  pub reads : read_plan f ≡ accepted plan
+  pub ranged : Ranged plan
+  pub tables : Tables plan c b
+  pub room : Room c
+
+given_by : (f : List ℕ) (q : Reading) → read_plan f ≡ q → (c : counted.Plan) (b : Buffers) → Answers q (Ok c) b → Given f c b
+given_by f (refused n v) e c b h = absurd h
+given_by f (accepted p) e c b h = let r = read_ranged f p e in record { plan = p; reads = e; ranged = r; tables = h; room = room_of r h }
+
+pub given : (f : List ℕ) (c : counted.Plan) (b : Buffers) → Answers (read_plan f) (Ok c) b → Given f c b
+given f c b h = given_by f (read_plan f) refl c b h

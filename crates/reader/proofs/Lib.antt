@@ -12,3 +12,4 @@ pub mod Loop
 pub mod Lending
 pub mod Sample
 pub mod EmptyClause
+pub mod Cutting

@@ -8,7 +8,7 @@ use Rattle.plan.specs.Tables.{edges_of, atoms_of}
 use Rattle.plan.specs.Refusals.{number_of, value_of}
 use Rattle.plan.specs.declared.Plan as counted
 use Rattle.plan.specs.declared.refusal.Refusal.{Refusal}
-use Rattle.reader.specs.Format.{Step, refuse, next, done}
+use Rattle.reader.specs.Format.{Step, refuse, next, done, Reading, refused, accepted}
 use Rattle.reader.specs.declared.Buffers.{Buffers}
 use Rattle.reader.specs.declared.Step as code
 use Rattle.reader.specs.declared.Step.TheVariants.{Next, Done}
@@ -37,3 +37,10 @@ pub data Steps (b : Buffers) : Step → Result code.Step Refusal → Type 0 wher
 -- What taking a record promises: of every plan file that stood in the tables before, with the counts c, the code's step is the definition's.
 abbrev pub Takes : (PlanFile → Step) → counted.Plan → Buffers → Result code.Step Refusal → Buffers → Type 0
 Takes s c b r b' = (p : PlanFile) → Tables p c b → Steps b' (s p) r
+
+-- What a read answer says of a reading: of an accepted file the plan stands in the tables.
+abbrev pub Answers : Reading → Result counted.Plan Refusal → Buffers → Type 0
+Answers (refused n v) (Err y) b = (n ≡ number_of y) × (v ≡ value_of y)
+Answers (refused n v) (Ok c) b = ⊥
+Answers (accepted p) (Err y) b = ⊥
+Answers (accepted p) (Ok c) b = Tables p c b

@@ -2,11 +2,16 @@
 #![tactic(auto)]
 
 mod fields;
+mod parts;
 mod record;
 mod records;
 
+ghost use Rattle.std.specs.Prelude.{◌≡◌, pos, replicate};
+ghost use Rattle.plan.specs.ClauseTable.{max_table};
+ghost use Rattle.plan.specs.Ranged.{max_edges, max_atoms};
+ghost use Rattle.plan.specs.declared.Kind.TheVariants.{Reaches};
 ghost use Rattle.reader.specs.Format.{head_at, read_plan};
-ghost use Rattle.reader.specs.Filling.{Steps};
+ghost use Rattle.reader.specs.Filling.{Steps, Answers};
 ghost use Rattle.reader.specs.Reads.{Reads};
 
 use fields::head_ok;
@@ -16,8 +21,8 @@ use record::Record;
 // Room for the tables of every file that may be accepted. (No Vec: no heap.)
 #[derive(Clone, Copy)]
 pub struct Buffers {
-    pub edges: [Edge; Plan::MAX_EDGES],
-    pub atoms: [Atom; Atom::MAX],
+    pub edges: [Edge; Edge::TABLE],
+    pub atoms: [Atom; Atom::TABLE],
     pub clauses: [i16; Clause::TABLE],
 }
 
@@ -68,11 +73,15 @@ fn head(file: &[u8]) -> Result<Step, Refusal>
 }
 
 impl Buffers {
-    // Nothing is promised of what stands in them: a read lends on only what it wrote.
-    pub fn new() -> Buffers {
+    // Tables without anything in them; a read lends on only what it wrote.
+    pub fn new() -> Buffers
+        ensures edges { result.edges ≡ replicate max_edges (record { from = 0; to = 0; length = 0; variable = 0 }) }
+        ensures atoms { result.atoms ≡ replicate max_atoms (record { kind = Reaches; from = 0; to = 0; bound = 0; variable = 0 }) }
+        ensures clauses { result.clauses ≡ replicate max_table (pos 0) }
+    {
         Buffers {
-            edges: [Edge::NONE; Plan::MAX_EDGES],
-            atoms: [Atom::NONE; Atom::MAX],
+            edges: [Edge::NONE; Edge::TABLE],
+            atoms: [Atom::NONE; Atom::TABLE],
             clauses: [0; Clause::TABLE],
         }
     }
@@ -81,23 +90,29 @@ impl Buffers {
     pub fn read(&mut self, file: &[u8]) -> Result<Tables<'_>, Refusal>
         ensures { Reads (read_plan file.now) result }
     {
-        let mut step = head(file)?;
-        // Each record says where the next one begins.
-        loop {
-            match step {
-                Step::Next(at, counts) => {
-                    let record = Record::at(file, at, counts)?;
-                    step = self.take(record)?;
-                }
-                Step::Done(plan) => {
-                    return Ok(Tables {
-                        plan,
-                        edges: &self.edges[..plan.edges],
-                        atoms: &self.atoms[..plan.atoms],
-                        clauses: &self.clauses[..plan.literals + plan.clauses],
-                    });
-                }
+        let plan = read_into(file, self)?;
+        Ok(Tables {
+            plan,
+            edges: self.used_edges(plan),
+            atoms: self.used_atoms(plan),
+            clauses: self.used_clauses(plan),
+        })
+    }
+}
+
+// Reads a plan file into the tables, which keep it.
+pub fn read_into(file: &[u8], buffers: &mut Buffers) -> Result<Plan, Refusal>
+    ensures { Answers (read_plan file.now) result buffers.new }
+{
+    let mut step = head(file)?;
+    // Each record says where the next one begins.
+    loop {
+        match step {
+            Step::Next(at, counts) => {
+                let record = Record::at(file, at, counts)?;
+                step = buffers.take(record)?;
             }
+            Step::Done(plan) => return Ok(plan),
         }
     }
 }

@@ -1,44 +1,19 @@
--- `read` answers with what the file reads as: each step of the code is one of the definition.
-use Rattle.std.proofs.lemmas.Result.{err_from_is_err_and}
+-- `read` lends on what `read_into` left: its counts fit the tables, and the parts that are cut from them are the file.
 use Rattle.reader.proofs.Kit.{refl}
-use Rattle.reader.proofs.Lending.{lending_of, reads}
-use Rattle.reader.proofs.Loop.{begins, head_refused, cut_at, refused_at, whole, standing, goes_on, falls}
+use Rattle.reader.proofs.Cutting.{room, parts}
 use Rattle.reader.proofs.Buffers.read.Goals as goal
 
-pub returns-in_err-step : goal.returns-in_err-step
-returns-in_err-step c =
-    let q = err_from_is_err_and c.from_residual.result c.from_residual.ensures.1 in
-    rw ((head_refused c.args.file.now (c.in_err-step.ensures c.args.self.now)).is, q.1, q.2) (refl, refl)
+pub used_edges-requires : goal.used_edges-requires
+used_edges-requires c = room _ _ c.in_ok-plan.ensures
 
-pub loop-step-init : goal.loop-step-init
-loop-step-init c = begins _ (c.in_ok-step.ensures _)
+pub used_atoms-requires : goal.used_atoms-requires
+used_atoms-requires c = room _ _ c.in_ok-plan.ensures
 
-pub returns-in_err-record-in-Next : goal.returns-in_err-record-in-Next
-returns-in_err-record-in-Next c =
-    let w = standing c.loop-step.invariant c.in-Next.is in
-    let e = c.in_err-record-in-Next.ensures in
-    let q = err_from_is_err_and c.from_residual-in_err-record-in-Next.result c.from_residual-in_err-record-in-Next.ensures.1 in
-    rw ((cut_at w e.1).is, q.1, q.2, e.0) (refl, refl)
-
-pub returns-in_err-step-in-Next : goal.returns-in_err-step-in-Next
-returns-in_err-step-in-Next c =
-    let w = standing c.loop-step.invariant c.in-Next.is in
-    let e = c.in_ok-record-in-Next.ensures in
-    let q = err_from_is_err_and c.from_residual-in_err-step-in-Next.result c.from_residual-in_err-step-in-Next.ensures.1 in
-    rw ((refused_at w _ _ (rw (e.0, e.1, e.2) at c.in_err-step-in-Next.ensures)).is, q.1, q.2) (refl, refl)
-
-pub loop-step-smaller : goal.loop-step-smaller
-loop-step-smaller c =
-    let e = c.in_ok-record-in-Next.ensures in
-    rw c.in-Next.is (falls (standing c.loop-step.invariant c.in-Next.is) _ _ (rw (e.0, e.1, e.2) at c.in_ok-step-in-Next.ensures))
-
-pub loop-step-preserved : goal.loop-step-preserved
-loop-step-preserved c =
-    let e = c.in_ok-record-in-Next.ensures in
-    goes_on (standing c.loop-step.invariant c.in-Next.is) _ _ (rw (e.0, e.1, e.2) at c.in_ok-step-in-Next.ensures)
+pub used_clauses-requires : goal.used_clauses-requires
+used_clauses-requires c = room _ _ c.in_ok-plan.ensures
 
 pub invariant_of-result : goal.invariant_of-result
-invariant_of-result c = record { lent = lending_of (whole c.loop-step.invariant c.in-Done.is) }
+invariant_of-result c = record { lent = (parts _ _ c.in_ok-plan.ensures c.used_edges.ensures c.used_atoms.ensures c.used_clauses.ensures).lent }
 
-pub returns-in-Done : goal.returns-in-Done
-returns-in-Done c = rw (reads (whole c.loop-step.invariant c.in-Done.is)) refl
+pub returns : goal.returns
+returns c = rw ((parts _ _ c.in_ok-plan.ensures c.used_edges.ensures c.used_atoms.ensures c.used_clauses.ensures).reads) refl
