@@ -126,13 +126,20 @@ pub passed : {A B : Type 0} {a : A} {before after : List B} {C : PlanFile → Ty
 passed true n v m h = (refl, h)
 passed false n v m h = absurd (never h.case.0)
 
--- so where it writes the blocks every atom has one, and there was room
+-- where no refusal fits the answer, every atom has a block, and the other checks go on
+pub blocks_met : (φ : PlanFile) (m : Met) (R : ℕ → ℕ → Type 0) (C : PlanFile → Type 0) → ((n v : ℕ) → R n v → ⊥) → Case R C (require_blocks φ m) → AllHaveBlocks φ.atoms × Case R C m
+blocks_met φ m R C never h = go (eqb (first_unwritten φ.atoms) (length φ.atoms)) refl h
+  where
+    go : (b : Bool) → eqb (first_unwritten φ.atoms) (length φ.atoms) ≡ b → Case R C (require b 13 (first_unwritten φ.atoms + 1) m) → AllHaveBlocks φ.atoms × Case R C m
+    go true e k = (all_pass (λ A. has_block A.kind) φ.atoms (eqb-true (first_unwritten φ.atoms) (length φ.atoms) e), k)
+    go false e k = absurd (never 13 (first_unwritten φ.atoms + 1) k)
+
+-- so where a call writes the blocks every atom has one, and there was room
 pub wrote_clear : {A B : Type 0} {a : A} {before after : List B} {C : PlanFile → Type 0} (φ : PlanFile) (room : Bool) (n : ℕ)
     → KeepingBy (require_blocks φ (require room 12 n (clear φ))) Err C before after (Ok a) → AllHaveBlocks φ.atoms × C φ
-wrote_clear φ room n h =
-    let k = first_unwritten φ.atoms in
-    let p = passed (eqb k (length φ.atoms)) 13 (k + 1) (require room 12 n (clear φ)) h in
-    (all_pass (λ A. has_block A.kind) φ.atoms (eqb-true k (length φ.atoms) p.0), (passed room 12 n (clear φ) p.1).1.case)
+wrote_clear {C = C} φ room n h =
+    let p = blocks_met φ (require room 12 n (clear φ)) _ C (λ k w x. never x.0) h.case in
+    (p.0, (passed room 12 n (clear φ) (record { case = p.1 })).1.case)
 
 -- a buffer's room
 module _ (m : Met) (n k : ℕ) where

@@ -59,8 +59,8 @@ use Rattle.planner.specs.ReadDimacs.{rules_for, RulesCase, RulesReadIs}
 one_name : (n v : ℕ) (x y : Refusal) → Names n v x → Names n v y → x ≡ y
 one_name n v x y h k = one_refusal x y (sym h.number ∙ k.number) (sym h.value ∙ k.value)
 
-one_refuses : {A : Type 0} {n v : ℕ} {r s : Result A Refusal} → Refuses Err n v r → Refuses Err n v s → r ≡ s
-one_refuses {n = n} {v = v} h k = h.is ∙ ap Err (one_name n v h.why k.why h.names k.names) ∙ sym k.is
+one_refuses : {A : Type 0} {refused : Refusal → A} {n v : ℕ} {r s : A} → Refuses refused n v r → Refuses refused n v s → r ≡ s
+one_refuses {refused = refused} {n = n} {v = v} h k = h.is ∙ ap refused (one_name n v h.why k.why h.names k.names) ∙ sym k.is
 
 -- no second answer with its buffer fits
 abbrev pub OneLeft : {A B : Type 0} → (List B → A → Type 0) → Type 0
@@ -72,7 +72,7 @@ pub record Told {O X : Type 0} (Leads : O → Type 0) (tell : O → X) (x : X) :
   pub is : Leads of
   pub told : x ≡ tell of
 
-module _ {O : Type 0} (Leads : PlanFile → O → Type 0) where
+module _ {A O : Type 0} (refused : Refusal → A) (Leads : PlanFile → O → Type 0) where
   -- there is one outcome where nothing is refused
   abbrev OneOutcome : Met → Type 0
   OneOutcome m = (φ : PlanFile) → m ≡ clear φ → (o p : O) → Leads φ o → Leads φ p → o ≡ p
@@ -81,21 +81,20 @@ module _ {O : Type 0} (Leads : PlanFile → O → Type 0) where
   one_told one φ e tell h k = h.told ∙ ap tell (one φ e h.of k.of h.is k.is) ∙ sym k.told
 
   -- a call without a lent buffer
-  unique : {A : Type 0} {m : Met} → OneOutcome m → (tell : O → Result A Refusal) (C : Result A Refusal → PlanFile → Type 0)
-      → ((φ : PlanFile) (r : Result A Refusal) → C r φ → Told (Leads φ) tell r) → (r s : Result A Refusal)
-      → By m (λ n v. Refuses Err n v r) (C r) → By m (λ n v. Refuses Err n v s) (C s) → r ≡ s
-  unique {m = m} one tell C led r s h k = go m refl h.case k.case
+  unique : {m : Met} → OneOutcome m → (tell : O → A) (C : A → PlanFile → Type 0) → ((φ : PlanFile) (r : A) → C r φ → Told (Leads φ) tell r) → (r s : A)
+      → By m (λ n v. Refuses refused n v r) (C r) → By m (λ n v. Refuses refused n v s) (C s) → r ≡ s
+  unique {m} one tell C led r s h k = go m refl h.case k.case
     where
-      go : (m' : Met) → m ≡ m' → Case (λ n v. Refuses Err n v r) (C r) m' → Case (λ n v. Refuses Err n v s) (C s) m' → r ≡ s
+      go : (m' : Met) → m ≡ m' → Case (λ n v. Refuses refused n v r) (C r) m' → Case (λ n v. Refuses refused n v s) (C s) m' → r ≡ s
       go (refusal n v) e x y = one_refuses x y
       go (clear φ) e x y = one_told one φ e tell (led φ r x) (led φ s y)
 
   -- a call with one
-  unique_left : {A B : Type 0} {m : Met} → OneOutcome m → (tell : O → Result A Refusal × List B) (before : List B) (C : Result A Refusal → List B → PlanFile → Type 0)
-      → ((φ : PlanFile) (r : Result A Refusal) (after : List B) → C r after φ → Told (Leads φ) tell (r, after)) → OneLeft (λ after r. KeepingBy m Err (C r after) before after r)
+  unique_left : {B : Type 0} {m : Met} → OneOutcome m → (tell : O → A × List B) (before : List B) (C : A → List B → PlanFile → Type 0)
+      → ((φ : PlanFile) (r : A) (after : List B) → C r after φ → Told (Leads φ) tell (r, after)) → OneLeft (λ after r. KeepingBy m refused (C r after) before after r)
   unique_left {m = m} one tell before C led after after' r s h k = go m refl h.case k.case
     where
-      go : (m' : Met) → m ≡ m' → Case (λ n v. Refuses Err n v r × Kept before after) (C r after) m' → Case (λ n v. Refuses Err n v s × Kept before after') (C s after') m'
+      go : (m' : Met) → m ≡ m' → Case (λ n v. Refuses refused n v r × Kept before after) (C r after) m' → Case (λ n v. Refuses refused n v s × Kept before after') (C s after') m'
           → (r ≡ s) × (after ≡ after')
       go (refusal n v) e x y = (one_refuses x.0 y.0, x.1 ∙ sym y.1)
       go (clear φ) e x y = let q = one_told one φ e tell (led φ r after x) (led φ s after' y) in (ap (λ z. z.0) q, ap (λ z. z.1) q)
@@ -120,7 +119,7 @@ read_led φ (Err y) h = absurd h
 read_led φ (Ok p) h = record { of = p; is = h; told = refl }
 
 pub read_unique : (file : List ℕ) (r s : Result Plan Refusal) → ReadIs file r → ReadIs file s → r ≡ s
-read_unique file r s h k = unique Counts (λ φ e. one_count φ) Ok (λ r φ. ReadCase φ r) read_led r s h k
+read_unique file r s h k = unique Err Counts (λ φ e. one_count φ) Ok (λ r φ. ReadCase φ r) read_led r s h k
 
 -- ---- judge
 
@@ -137,7 +136,7 @@ module _ (a : List ℤ) where
   judge_led φ (Ok (judge.Atom k)) h = record { of = judging.wrong k; is = h; told = refl }
 
 pub judge_unique : (file : List ℕ) (a : List ℤ) (r s : Result Judgement Refusal) → JudgeIs file a r → JudgeIs file a s → r ≡ s
-judge_unique file a r s h k = unique (λ φ. judging.Judged φ a) (λ φ e. judged_unique φ a) told_judge (λ r φ. JudgeCase φ a r) (judge_led a) r s h k
+judge_unique file a r s h k = unique Err (λ φ. judging.Judged φ a) (λ φ e. judged_unique φ a) told_judge (λ r φ. JudgeCase φ a r) (judge_led a) r s h k
 
 -- ---- close
 
@@ -159,7 +158,7 @@ module _ (given before : List ℤ) where
 
 pub close_unique : (file : List ℕ) (given before : List ℤ) → OneLeft (ClosedIs file given before)
 close_unique file given before =
-    unique_left (λ φ. CloseIs φ given) (λ φ e. one_close given before φ) (told_close given before) before (λ r after φ. CloseCase φ given before after r) (close_led given before)
+    unique_left Err (λ φ. CloseIs φ given) (λ φ e. one_close given before φ) (told_close given before) before (λ r after φ. CloseCase φ given before after r) (close_led given before)
 
 -- ---- reason
 
@@ -218,7 +217,7 @@ asked_ranged file a k ψ h = go (read_plan file) refl h
 
 pub reason_unique : (file : List ℕ) (a : List ℤ) (i : ℕ) (before : List ℤ) → OneLeft (ReasonedIs file a i before)
 reason_unique file a i before =
-    unique_left (Gives a i before) (λ φ e. reasons.reason_unique φ (asked_ranged file a i φ e) a (atom φ.atoms (i - 1))) (told_reason a i before) before (λ r after φ. ReasonCase φ a i before after r) (reason_led a i before)
+    unique_left Err (Gives a i before) (λ φ e. reasons.reason_unique φ (asked_ranged file a i φ e) a (atom φ.atoms (i - 1))) (told_reason a i before) before (λ r after φ. ReasonCase φ a i before after r) (reason_led a i before)
 
 -- ---- search
 
@@ -242,7 +241,7 @@ module _ (budget : ℕ) (before : List ℤ) where
 
 pub search_unique : (file : List ℕ) (budget : ℕ) (before : List ℤ) → OneLeft (SearchedIs file budget before)
 search_unique file budget before =
-    unique_left (Ends budget before) (λ φ e. one_end budget before φ) (told_search budget before) before (λ r after φ. SearchCase φ budget before after r) (search_led budget before)
+    unique_left Err (Ends budget before) (λ φ e. one_end budget before φ) (told_search budget before) before (λ r after φ. SearchCase φ budget before after r) (search_led budget before)
 
 -- ---- write_clauses
 
@@ -261,7 +260,7 @@ module _ (before : List ℤ) where
 
 pub write_clauses_unique : (file : List ℕ) (before : List ℤ) → OneLeft (WrittenIs file before)
 write_clauses_unique file before =
-    unique_left (λ φ o. o ≡ φ) (λ φ z o p e f. e ∙ sym f) (told_write before) before (λ r after φ. WriteCase φ before after r) (write_led before)
+    unique_left Err (λ φ o. o ≡ φ) (λ φ z o p e f. e ∙ sym f) (told_write before) before (λ r after φ. WriteCase φ before after r) (write_led before)
 
 -- ---- write_dimacs
 
@@ -278,7 +277,7 @@ module _ (before : List ℕ) where
 
 pub write_dimacs_unique : (file before : List ℕ) → OneLeft (PrintedIs file before)
 write_dimacs_unique file before =
-    unique_left (λ φ o. o ≡ φ) (λ φ z o p e f. e ∙ sym f) (told_print before) before (λ r after φ. PrintCase φ before after r) (print_led before)
+    unique_left Err (λ φ o. o ≡ φ) (λ φ z o p e f. e ∙ sym f) (told_print before) before (λ r after φ. PrintCase φ before after r) (print_led before)
 
 -- ---- read_dimacs
 
@@ -299,4 +298,4 @@ module _ (lines before : List ℕ) where
 
 pub read_dimacs_unique : (file lines before : List ℕ) → OneLeft (RulesReadIs file lines before)
 read_dimacs_unique file lines before =
-    unique_left (Holding lines before) (λ φ z o p e f. ap rules_in (sym e ∙ f)) (told_rules lines before) before (λ r after φ. RulesCase φ lines before after r) (rules_led lines before)
+    unique_left Err (Holding lines before) (λ φ z o p e f. ap rules_in (sym e ∙ f)) (told_rules lines before) before (λ r after φ. RulesCase φ lines before after r) (rules_led lines before)
