@@ -1,10 +1,11 @@
 // One function for each operation: it does it so many times and hands back a sum, so that nothing can be left out.
-ghost use Rattle.std.specs.Prelude.{◌<◌, ◌≤◌};
+ghost use Rattle.std.specs.Prelude.{◌≡◌, ◌<◌, ◌≤◌};
+ghost use Rattle.plan.specs.Ranged.{max_variables};
 ghost use Rattle.plan.specs.Tables.{edges_of};
 ghost use Rattle.walk.specs.Walking.{AreChains};
 
 use dimacs::Printer;
-use plan::{Assignment, Clause, Plan, Side, Tables};
+use plan::{Assignment, Atom, Clause, Edge, Plan, Side, Tables};
 use reader::Buffers;
 use search::Found;
 use walk::{Chains, Distances, Graph};
@@ -18,13 +19,13 @@ const TEXT: usize = ROOM * 7;
 // Room for the text of the file's own clauses: at most 5 bytes for a literal, 2 for the 0 behind a clause, and the `p cnf` line.
 const RULES: usize = Clause::MAX_LITERALS * 5 + Clause::MAX * 2 + 40;
 
-// Does it so many times, and adds up what comes. It is told which turn it is, from 0, and how many are left with it.
-fn summed<F: FnMut(u32, u32) -> u64>(repetitions: u32, mut once: F) -> u64
+// Does it so many times, and adds up what comes. It is told how many are left with it.
+fn summed<F: FnMut(u32) -> u64>(repetitions: u32, mut once: F) -> u64
     requires { F.IsAlwaysCallable once }
 {
     let mut sum = 0u64;
     for turn in 0..repetitions {
-        sum = sum.wrapping_add(once(turn, repetitions - turn));
+        sum = sum.wrapping_add(once(repetitions - turn));
     }
     sum
 }
@@ -39,17 +40,35 @@ fn look<T: Into<i64>>(number: Option<T>) -> u64
     }
 }
 
-// The node whose turn it is.
-fn node_at(turn: u64, plan: Plan) -> usize
-    requires { plan.nodes ≤ 64 }
-    ensures { result < 64 }
-{
-    (turn % u64::from(plan.nodes.max(1))) as usize
+// The nodes of a plan, each in its turn and behind the last the first again. It moves on by one: a division in each turn takes as long as a walk where no
+// edges are.
+#[derive(Clone, Copy)]
+struct Source {
+    node: usize,
+    nodes: usize,
+    ghost inside: { node < 64 },
+    ghost few: { nodes ≤ 64 },
+}
+
+impl Source {
+    fn first(plan: Plan) -> Source
+        requires { plan.nodes ≤ 64 }
+    {
+        Source {
+            node: 0,
+            nodes: usize::from(plan.nodes),
+        }
+    }
+
+    fn move_on(&mut self) {
+        let next = self.node + 1;
+        self.node = if next < self.nodes { next } else { 0 };
+    }
 }
 
 // Reads the file again each time.
 pub fn read(file: &[u8], repetitions: u32) -> u64 {
-    summed(repetitions, |_, left| read_once(file, left as usize))
+    summed(repetitions, |left| read_once(file, left as usize))
 }
 
 fn read_once(file: &[u8], at: usize) -> u64 {
@@ -61,22 +80,22 @@ fn read_once(file: &[u8], at: usize) -> u64 {
     look_in(&buffers, atoms, at)
 }
 
-// Looks into each table as a list of its rows' numbers, 4 for an edge and 5 for an atom. Only a row that is used has a kind, whose number is not 0.
+// Looks into each table as a list of its rows' numbers. Only a row that is used has a kind, whose number is not 0.
 fn look_in(buffers: &Buffers, atoms: usize, at: usize) -> u64 {
-    let edge = match buffers.edges.get(at / 4) {
+    let edge = match buffers.edges.get(at / Edge::NUMBERS) {
         Some(edge) => look(
             [edge.from, edge.to, edge.length, edge.variable]
-                .get(at % 4)
+                .get(at % Edge::NUMBERS)
                 .copied(),
         ),
         None => 0,
     };
-    let atom = match buffers.atoms.get(at / 5) {
+    let atom = match buffers.atoms.get(at / Atom::NUMBERS) {
         Some(atom) => {
-            let kind = u16::from(at / 5 < atoms);
+            let kind = u16::from(at / Atom::NUMBERS < atoms);
             look(
                 [kind, atom.from, atom.to, atom.bound, atom.variable]
-                    .get(at % 5)
+                    .get(at % Atom::NUMBERS)
                     .copied(),
             )
         }
@@ -88,10 +107,12 @@ fn look_in(buffers: &Buffers, atoms: usize, at: usize) -> u64 {
 
 // Fills the neighbour sets of the over graph of all open each time.
 pub fn fill(tables: &Tables, repetitions: u32) -> u64 {
-    summed(
-        repetitions,
-        |turn, _| sets_of(tables)[node_at(u64::from(turn), tables.plan)],
-    )
+    let mut source = Source::first(tables.plan);
+    summed(repetitions, |_| {
+        let set = sets_of(tables)[source.node];
+        source.move_on();
+        set
+    })
 }
 
 fn sets_of(tables: &Tables) -> [u64; 64] {
@@ -118,18 +139,21 @@ fn counted(distances: &Distances, node: usize) -> u64
 pub fn walk(tables: &Tables, repetitions: u32) -> u64 {
     let sets = sets_of(tables);
     let mut distances = Distances::blank();
-    summed(repetitions, |turn, _| {
-        let turn = u64::from(turn);
-        walk::walk(&sets, node_at(turn, tables.plan), &mut distances);
-        counted(&distances, node_at(turn + 1, tables.plan))
+    let mut source = Source::first(tables.plan);
+    summed(repetitions, |_| {
+        walk::walk(&sets, source.node, &mut distances);
+        source.move_on();
+        counted(&distances, source.node)
     })
 }
 
 // Fills the chains of the edges of the over graph of all open each time.
 pub fn fill_chains(tables: &Tables, repetitions: u32) -> u64 {
-    summed(repetitions, |turn, _| {
-        let first = chains_of(tables).first;
-        u64::from(first[node_at(u64::from(turn), tables.plan)])
+    let mut source = Source::first(tables.plan);
+    summed(repetitions, |_| {
+        let first = chains_of(tables).first[source.node];
+        source.move_on();
+        u64::from(first)
     })
 }
 
@@ -148,26 +172,22 @@ fn chains_of(tables: &Tables) -> Chains
 pub fn length_walk(tables: &Tables, repetitions: u32) -> u64 {
     let chains = chains_of(tables);
     let mut distances = Distances::blank();
+    let mut source = Source::first(tables.plan);
     summed(
         repetitions,
-        |turn, _|
+        |_|
             requires { AreChains (edges_of tables.now.edges.now) chains }
         {
-            let turn = u64::from(turn);
-            walk::length_walk(
-                tables.edges,
-                &chains,
-                node_at(turn, tables.plan),
-                &mut distances,
-            );
-            counted(&distances, node_at(turn + 1, tables.plan))
+            walk::length_walk(tables.edges, &chains, source.node, &mut distances);
+            source.move_on();
+            counted(&distances, source.node)
         },
     )
 }
 
 // Closes from all open each time.
 pub fn close(tables: &Tables, repetitions: u32) -> u64 {
-    summed(repetitions, |_, _| close_once(tables))
+    summed(repetitions, |_| close_once(tables))
 }
 
 fn close_once(tables: &Tables) -> u64 {
@@ -183,7 +203,7 @@ pub fn write(tables: &Tables, repetitions: u32) -> u64 {
 }
 
 fn write_into(tables: &Tables, repetitions: u32, numbers: &mut [i32]) -> u64 {
-    summed(repetitions, |_, left| {
+    summed(repetitions, |left| {
         let written = match clauses::write_clauses(tables, numbers) {
             Ok(counts) => counts.numbers as u64,
             Err(_) => 0,
@@ -199,7 +219,7 @@ pub fn print(tables: &Tables, repetitions: u32) -> u64 {
 }
 
 fn print_into(tables: &Tables, repetitions: u32, text: &mut [u8]) -> u64 {
-    summed(repetitions, |_, left| {
+    summed(repetitions, |left| {
         let printed = match listing::write_text(tables, text) {
             Ok(bytes) => bytes as u64,
             Err(_) => 0,
@@ -227,19 +247,26 @@ pub fn rules(tables: &Tables, repetitions: u32) -> u64 {
         return 0;
     };
     let mut table = [0i16; Clause::TABLE];
-    summed(repetitions, |_, left| {
-        let read = rules_once(tables, text, &mut table);
+    summed(repetitions, |left| {
+        let read = rules_once(without_clauses(tables.plan), text, &mut table);
         read.wrapping_add(look(table.get(left as usize).copied()))
     })
 }
 
-// Reads the text for the plan as it was before its clauses, so that the limits hold for the text's alone.
-fn rules_once(tables: &Tables, text: &[u8], table: &mut [i16; Clause::TABLE]) -> u64 {
-    let plan = Plan {
+// The plan as it was before its clauses, so that the limits hold for the text's alone.
+fn without_clauses(plan: Plan) -> Plan
+    ensures { (result.variables ≡ plan.variables) × (result.clauses ≡ 0) × (result.literals ≡ 0) }
+{
+    Plan {
         clauses: 0,
         literals: 0,
-        ..tables.plan
-    };
+        ..plan
+    }
+}
+
+fn rules_once(plan: Plan, text: &[u8], table: &mut [i16; Clause::TABLE]) -> u64
+    requires { (plan.variables ≤ max_variables) × (plan.clauses ≡ 0) × (plan.literals ≡ 0) }
+{
     match dimacs::read_rules(plan, text, table) {
         Ok(rules) => (rules.clauses as u64).wrapping_add(rules.literals as u64),
         Err(_) => 0,
