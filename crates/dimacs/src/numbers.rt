@@ -24,6 +24,8 @@ fn magnitude(digits: &[u8], most: u32) -> Option<u32>
     Some(value as u32)
 }
 
+// Never put in line: among all that a reader of rules holds the places in the text would not stay in registers, and a long word would take half as long again.
+#[inline(never)]
 pub fn number_in(word: &[u8]) -> Option<i32>
     ensures { Numbers·number_in word.now ≡ as_option result }
 {

@@ -3,8 +3,8 @@ use crate::{BEFORE, MAX_ROOM, Request, Stop};
 use plan::{Plan, Refusal};
 use planner::{Answer, CloseAnswer, Counts, Found, Judgement, Rules};
 use std::fmt::Display;
-use std::io;
 use std::io::Write;
+use std::{fmt, io};
 
 // Makes the call and writes its line. The byte is told here once: an enum between would be a second match.
 pub(crate) fn answer(out: &mut impl Write, request: Request<'_>) -> Result<(), Stop> {
@@ -73,11 +73,21 @@ fn lent<T: Display, A: Say, F: FnOnce(&mut [T]) -> Result<A, Refusal>>(
     requires { F.IsAlwaysCallable call }
 {
     call(places).say(out)?;
-    write!(out, " :")?;
-    for place in places {
-        write!(out, " {place}")?;
+    writeln!(out, " :{}", Places(places))
+}
+
+// Every place of a lent buffer, each behind one blank. They are one value, since a `write!` for each takes up to twice as long.
+#[derive(Clone, Copy)]
+struct Places<'a, T>(&'a [T]);
+
+impl<T: Display> Display for Places<'_, T> {
+    fn fmt<W: fmt::Write>(&self, f: &mut fmt::Formatter<W>) -> fmt::Result {
+        for place in self.0 {
+            f.write_str(" ")?;
+            place.fmt(f)?;
+        }
+        Ok(())
     }
-    writeln!(out)
 }
 
 // An answer, in the words of its line. Not `Display`: the answers are types of other crates, and these words are this program's alone.
