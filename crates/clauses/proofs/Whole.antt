@@ -76,7 +76,7 @@ module _ {p : Plan} {edges : List struct-of-edge.Edge} {atoms : List struct-of-a
       }
 
   module _ {counts : Counts} (is : Counting φ counts) {old : List ℤ} (h : counts.numbers ≤ length old) where
-    room : Room (clauses ++ file_blocks φ) 0 old
+    pub room : Room (clauses ++ file_blocks φ) 0 old
     room = record { fits = omega (arith, is.numbers, ap length whole_is) }
 
     pub room_own : Room clauses 0 old

@@ -93,9 +93,10 @@ module _ (φ : PlanFile) (ok : Ranged φ) (A : Atom) (m : Memᴰ A φ.atoms) (b 
         (record { onward = onward_add φ ok v s l gives g.2; tells = (fewer_add φ ok v s l gives g.1 g.2, λ y. has) })
     looks_gets (Ok Still) g = subst (λ z. There z (Ok Still)) (sym g.0) (record { onward = onward_none φ v s; tells = (refl, λ y. g.1) })
 
-pub gets_shape : (n : ℕ) (l : ℤ) (v w : List ℤ) (r : Step) → Assigned n v → LiteralFits n l → Gets l v w (Ok r) → Assigned n w
-gets_shape n l v w Set s f g = subst (Assigned n) (sym g.0) (add_shape n v l (omega (arith, f.high, s.long)) s)
-gets_shape n l v w Still s f g = subst (Assigned n) (sym g.0) s
+pub gets_shape : (n : ℕ) (l : ℤ) (v w : List ℤ) (r : Result Step Clash) → Assigned n v → LiteralFits n l → Gets l v w r → Assigned n w
+gets_shape n l v w (Err c) s f g = subst (Assigned n) (sym g.0) s
+gets_shape n l v w (Ok Set) s f g = subst (Assigned n) (sym g.0) (add_shape n v l (omega (arith, f.high, s.long)) s)
+gets_shape n l v w (Ok Still) s f g = subst (Assigned n) (sym g.0) s
 
 -- an atom is heard further on, and from further back: what is settled at first stays settled
 module _ (φ : PlanFile) (b : Bool) (u v w : List ℤ) (A : Atom) where

@@ -25,7 +25,7 @@ use walk::{Distances, Graph, Members};
 
 // What a look at the atoms, or a round, does to an assignment where it finds no clash.
 #[derive(Clone, Copy)]
-enum Step {
+pub enum Step {
     Set,
     Still,
 }

@@ -16,7 +16,7 @@ use lib.Seq.{take-suc}
 use Rattle.plan.proofs.Lists.{le_or_lt}
 use Rattle.dimacs.specs.Words.{blank, line_end}
 use Rattle.dimacs.specs.Numbers.{zero_digit, minus}
-use Rattle.dimacs.specs.Printing.{digits, numeral, printed, divider, entry, entries, head_line, atom_line}
+use Rattle.dimacs.specs.Printing.{digits, numeral, divider, entry, entries, head_line, atom_line}
 
 -- 10, so many times
 unfoldable pub power : ℕ → ℕ
@@ -102,11 +102,41 @@ digits_exact (suc k) n =
     (λ (l : n < 10). one_digit k n l ∙ ap (λ m. (zero_digit + m) ∷ []) (sym (mod-eq_of_lt l)) ∙ ap (λ m. exactly m n) (sym (one_length k n l)))
     (le_or_lt 10 n)
 
+-- the parts of an entry: its sign, its digits, and what stands behind it
+abbrev pub sign : ℤ → List ℕ
+sign (pos n) = []
+sign (negsuc n) = minus ∷ []
+
+pub sign_length : (l : ℤ) → length (sign l) ≤ 1
+sign_length (pos n) = omega arith
+sign_length (negsuc n) = omega arith
+
+pub sign_below : (l : ℤ) → lt_z l (pos 0) ≡ true → sign l ≡ minus ∷ []
+sign_below (pos n) e = let h : n < 0 = ltb-true n 0 e in absurd (omega arith)
+sign_below (negsuc n) e = refl
+
+pub sign_none : (l : ℤ) → lt_z l (pos 0) ≡ false → sign l ≡ []
+sign_none (pos n) e = refl
+sign_none (negsuc n) e = let z : ◌≡◌ {A = ℕ} 0 1 = cc in absurd (omega arith)
+
+pub divider_zero : (l : ℤ) → l ≡ pos 0 → divider l ≡ line_end
+divider_zero l e = ap divider e
+
+pub divider_other : (l : ℤ) → (l ≡ pos 0 → ⊥) → divider l ≡ blank
+divider_other (pos zero) h = absurd (h refl)
+divider_other (pos (suc n)) h = refl
+divider_other (negsuc n) h = refl
+
+pub entry_parts : (l : ℤ) {b : ℕ} → divider l ≡ b → (sign l ++ numeral (nat_abs l)) ++ (b ∷ []) ≡ entry l
+unfolding entry
+entry_parts (pos n) e = ap (λ b. numeral n ++ (b ∷ [])) (sym e)
+entry_parts (negsuc n) e = ap (λ b. (minus ∷ numeral (suc n)) ++ (b ∷ [])) (sym e)
+
 -- what is printed at once is short
 pub entry_length : (l : ℤ) → length (entry l) ≤ 12
-unfolding entry
-entry_length (pos n) = omega (arith, length-append (numeral n) (divider (pos n) ∷ []), digits_most 10 n)
-entry_length (negsuc n) = omega (arith, length-append (printed (negsuc n)) (divider (negsuc n) ∷ []), digits_most 10 (suc n))
+entry_length l =
+    let e : length ((sign l ++ numeral (nat_abs l)) ++ (divider l ∷ [])) ≡ length (entry l) = ap length (entry_parts l refl) in
+    omega (arith, e, length-append (sign l ++ numeral (nat_abs l)) (divider l ∷ []), length-append (sign l) (numeral (nat_abs l)), sign_length l, digits_most 10 (nat_abs l))
 
 pub head_length : (v c : ℕ) → length (head_line v c) ≤ 40
 unfolding head_line
@@ -133,29 +163,3 @@ entries_next xs i l =
     ∙ ap entries (take-suc xs i (pos 0) l)
     ∙ entries_append (take i xs) (get_or xs i (pos 0) ∷ [])
     ∙ ap (λ z. entries (take i xs) ++ z) (append-nil (entry (get_or xs i (pos 0))))
-
--- the parts of an entry: its sign, its digits, and what stands behind it
-abbrev pub sign : ℤ → List ℕ
-sign (pos n) = []
-sign (negsuc n) = minus ∷ []
-
-pub sign_below : (l : ℤ) → lt_z l (pos 0) ≡ true → sign l ≡ minus ∷ []
-sign_below (pos n) e = let h : n < 0 = ltb-true n 0 e in absurd (omega arith)
-sign_below (negsuc n) e = refl
-
-pub sign_none : (l : ℤ) → lt_z l (pos 0) ≡ false → sign l ≡ []
-sign_none (pos n) e = refl
-sign_none (negsuc n) e = let z : ◌≡◌ {A = ℕ} 0 1 = cc in absurd (omega arith)
-
-pub divider_zero : (l : ℤ) → l ≡ pos 0 → divider l ≡ line_end
-divider_zero l e = ap divider e
-
-pub divider_other : (l : ℤ) → (l ≡ pos 0 → ⊥) → divider l ≡ blank
-divider_other (pos zero) h = absurd (h refl)
-divider_other (pos (suc n)) h = refl
-divider_other (negsuc n) h = refl
-
-pub entry_parts : (l : ℤ) {b : ℕ} → divider l ≡ b → (sign l ++ numeral (nat_abs l)) ++ (b ∷ []) ≡ entry l
-unfolding entry
-entry_parts (pos n) e = ap (λ b. numeral n ++ (b ∷ [])) (sym e)
-entry_parts (negsuc n) e = ap (λ b. (minus ∷ numeral (suc n)) ++ (b ∷ [])) (sym e)

@@ -39,11 +39,11 @@ module _ (text : List ℕ) (at : ℕ) where
     unfolding last
     nothing_left leads = none_left (between leads)
 
-    comment_over : left comment text at ≡ left (between true) text at
+    pub comment_over : left comment text at ≡ left (between true) text at
     unfolding last
     comment_over = none_left comment ∙ sym (none_left (between true))
 
-    word_over : (w : Word) → left (inside w) text at ≡ w ∷ left (between false) text at
+    pub word_over : (w : Word) → left (inside w) text at ≡ w ∷ left (between false) text at
     unfolding last
     word_over w = none_left (inside w) ∙ ap (λ (ws : List Word). w ∷ ws) (sym (none_left (between false)))
 
@@ -66,11 +66,11 @@ module _ (text : List ℕ) (at : ℕ) where
     unfolding moved ended
     word_opens leads d e = step (between leads) ∙ rw (d, e)
 
-    comment_goes : eqb (get_or text at 0) line_end ≡ false → left comment text at ≡ left comment text (at + 1)
+    pub comment_goes : eqb (get_or text at 0) line_end ≡ false → left comment text at ≡ left comment text (at + 1)
     unfolding moved ended
     comment_goes e = step comment ∙ rw e
 
-    comment_ends : eqb (get_or text at 0) line_end ≡ true → left comment text at ≡ left (between true) text at
+    pub comment_ends : eqb (get_or text at 0) line_end ≡ true → left comment text at ≡ left (between true) text at
     unfolding moved ended
     comment_ends e = step comment ∙ rw (e, divided true true (line_end_divides (get_or text at 0) e) refl)
 
@@ -78,7 +78,7 @@ module _ (text : List ℕ) (at : ℕ) where
     unfolding moved ended
     word_goes w d = step (inside w) ∙ rw d
 
-    word_ends : (w : Word) → divides (get_or text at 0) ≡ true → left (inside w) text at ≡ w ∷ left (between false) text at
+    pub word_ends : (w : Word) → divides (get_or text at 0) ≡ true → left (inside w) text at ≡ w ∷ left (between false) text at
     unfolding moved ended
     word_ends w d = step (inside w) ∙ rw (d, divided false (eqb (get_or text at 0) line_end) d refl)
 
@@ -100,10 +100,10 @@ part_opens text from to h l =
 
 -- A word with a part of the text behind its bytes: with none of it, and with one byte more.
 module _ (text : List ℕ) (from : ℕ) where
-  word_begins : (w : Word) → left (inside w) text from ≡ left (inside (with w (part text from from))) text from
+  pub word_begins : (w : Word) → left (inside w) text from ≡ left (inside (with w (part text from from))) text from
   word_begins w = rw (part_none text from, with_none w)
 
-  word_longer : (at : ℕ) (w : Word) → from ≤ at → at < length text → divides (get_or text at 0) ≡ false
+  pub word_longer : (at : ℕ) (w : Word) → from ≤ at → at < length text → divides (get_or text at 0) ≡ false
       → left (inside (with w (part text from at))) text at ≡ left (inside (with w (part text from (at + 1)))) text (at + 1)
   word_longer at w f h d = word_goes text at h (with w (part text from at)) d ∙ rw (append_assoc, part_more text from at f h)
 

@@ -24,7 +24,7 @@ All P [] = Unit {0}
 All P (x ∷ xs) = P x × All P xs
 
 module _ {A : Type 0} (P : A → Type 0) where
-  all_in : (xs : List A) (x : A) → Memᴰ x xs → All P xs → P x
+  pub all_in : (xs : List A) (x : A) → Memᴰ x xs → All P xs → P x
   all_in [] x m h = elim m [ ]
   all_in (y ∷ xs) x (Memᴰ.head e) h = subst P (sym e) h.0
   all_in (y ∷ xs) x (Memᴰ.tail m) h = all_in xs x m h.1

@@ -140,7 +140,7 @@ appends_then {mid = mid} {p = p} {q = q} {out'' = out''} f g = record {
 pub clause_length : (x : ℤ) (sign : Bool) (m : List Bool) (n : ℕ) → length (clause_of x sign m n) ≡ suc (length (premises m n))
 clause_length x sign m n = ap suc (length-map (premises m n) (literal_of sign))
 
-premises_next : (sign : Bool) (m : List Bool) (n : ℕ)
+pub premises_next : (sign : Bool) (m : List Bool) (n : ℕ)
     → map (literal_of sign) (premises m n) ++ map (literal_of sign) (piece (get_or m n false) (n + 1)) ≡ map (literal_of sign) (premises m (n + 1))
 unfolding premises
 premises_next sign m n = rw (add-one n) (sym (map-append (literal_of sign) (premises m n) (piece (get_or m n false) (suc n))))

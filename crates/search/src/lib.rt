@@ -15,7 +15,7 @@ use closing::{Clash, Prepared};
 use plan::{Assignment, Tables};
 
 #[derive(Clone, Copy)]
-enum Verdict {
+pub enum Verdict {
     Plan(Assignment),
     Impossible,
     Undecided,
@@ -23,9 +23,9 @@ enum Verdict {
 
 // A part of the search: the verdict, and the branchings counted so far.
 #[derive(Clone, Copy)]
-struct Report {
-    verdict: Verdict,
-    count: u32,
+pub struct Report {
+    pub verdict: Verdict,
+    pub count: u32,
 }
 
 // Closes an assignment in place. `tried` is the literal that was added to a closed set; `None` where nothing is known.

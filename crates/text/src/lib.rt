@@ -8,7 +8,7 @@ ghost use Rattle.std.specs.Io.{ReadsAtMost};
 ghost use Rattle.std.specs.Io.KnownBytes.{Consumes, IsAtEnd};
 
 use plan::Plan;
-pub use print::Out;
+pub use print::{Out, SIZE};
 use std::io;
 use std::io::Read;
 

@@ -6,7 +6,8 @@ ghost use Rattle.std.specs.Io.KnownBytes.{Keeps, Appends, WriteAppends};
 use std::io;
 use std::io::Write;
 
-const SIZE: usize = 4096;
+// The length of the buffer.
+pub const SIZE: usize = 4096;
 
 // What a program prints, gathered: a full buffer is written out when the next byte comes, and the rest at `flush`. An error leaves open
 // how much of the buffer was written, and a drop writes nothing.

@@ -74,7 +74,7 @@ pending_less {cs} {v} {q} {head} {end} {Left} {Left'} less t = record { queue = 
 
 -- one literal more, which waits at the queue's end
 module _ {v : List ℤ} {l : ℤ} (s : Assigned (length v) v) (f : LiteralFits (length v) l) (not_true : T (true_in v l) → ⊥) (not_false : T (true_in v (neg_ℤ l)) → ⊥) where
-  end_inside : (end : ℕ) → end + opens v ≤ max_variables → end < max_variables
+  pub end_inside : (end : ℕ) → end + opens v ≤ max_variables → end < max_variables
   end_inside end h = omega (arith, add_opens (length v) v l s f.low f.high not_true not_false)
 
   module _ {cs q : List ℤ} {head end : ℕ} {Left Left' : List ℤ → Type 0} (h : head ≤ end) (t : Pending cs Left v q head end)
@@ -306,7 +306,7 @@ follow_ends s h = look_ends s.looks.steps s.looks.pending (λ D x. omega (arith,
 pub leads_clash : {cs u v q : List ℤ} {head end : ℕ} {c : Clash} → Follows cs u v q head end (Err c) → Propagated cs u v (Err c)
 leads_clash a = record { steps = a.steps; ends = a.leads }
 
-pub propagated_then : {cs u v w q : List ℤ} {head end : ℕ} {r : Result (Unit {0}) Clash} → Follows cs u v q head end (Ok tt) → Propagated cs v w r → Propagated cs u w r
+pub propagated_then : {cs u v w q : List ℤ} {head end : ℕ} {z r : Result (Unit {0}) Clash} → Follows cs u v q head end z → Propagated cs v w r → Propagated cs u w r
 propagated_then {cs} {u} {v} {w} {r = r} a x = record { steps = by_then a.steps x.steps; ends = go r x.ends }
   where
     go : (r : Result (Unit {0}) Clash) → Ends cs v w r → Ends cs u w r

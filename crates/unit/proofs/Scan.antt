@@ -77,7 +77,7 @@ module _ {cs a : List ℤ} {at first : ℕ} (ready : Ready cs a) (s : Stop cs a 
   all_before : (k : ℕ) → at ≤ k → k < first → T (true_in a (neg_ℤ (get_or cs k (pos 0))))
   all_before k x y = let q = goes_on a (pos 0) (get_or cs k (pos 0)) (s.before k x y) in ⊎_elim (λ z. absurd (q.0 z)) (λ t. t) q.1
 
-  at_zero : literal ≡ pos 0 → (c : Clash) → SaysAt cs at a (Err c)
+  pub at_zero : literal ≡ pos 0 → (c : Clash) → SaysAt cs at a (Err c)
   at_zero z c e n l m = let q = part_out cs at e n l m in subst (λ x. T (true_in a (neg_ℤ x))) (sym q.3) (go q.0 q.1 q.2 (le_or_lt first q.0))
     where
       go : (k : ℕ) → at ≤ k → k < e → (first ≤ k) ⊎ (k < first) → T (true_in a (neg_ℤ (get_or cs k (pos 0))))
@@ -86,7 +86,7 @@ module _ {cs a : List ℤ} {at first : ℕ} (ready : Ready cs a) (s : Stop cs a 
 
   -- a literal stands at the first stop
   module _ (some : literal ≢ pos 0) where
-    literal_fits : LiteralFits (length a) literal
+    pub literal_fits : LiteralFits (length a) literal
     literal_fits = ready.table.fits first s.inside some
 
     not_false : T (true_in a (neg_ℤ literal)) → ⊥
@@ -95,12 +95,12 @@ module _ {cs a : List ℤ} {at first : ℕ} (ready : Ready cs a) (s : Stop cs a 
     first_in : (e : ℕ) → End cs at e → Memᴰ literal (part cs at e)
     first_in e n = part_in cs at e n first s.after (stop_inside cs a (pos 0) s some n)
 
-    at_true : T (true_in a literal) → SaysAt cs at a (Ok None)
+    pub at_true : T (true_in a literal) → SaysAt cs at a (Ok None)
     at_true t e n = quiet_true a (part cs at e) literal (first_in e n) t
 
     -- the second stop, behind the first
     module _ {second : ℕ} (r : Stop cs a (first + 1) literal second) where
-      at_second : get_or cs second (pos 0) ≢ pos 0 → SaysAt cs at a (Ok None)
+      pub at_second : get_or cs second (pos 0) ≢ pos 0 → SaysAt cs at a (Ok None)
       at_second z e n =
           let x = s.after in
           let y = r.after in
@@ -109,7 +109,7 @@ module _ {cs a : List ℤ} {at first : ℕ} (ready : Ready cs a) (s : Stop cs a 
           quiet_two (true_in a) (part cs at e) literal (get_or cs second (pos 0)) (first_in e n) (part_in cs at e n second (omega arith) w) not_false
           (λ t. ⊎_elim (λ o. z o) (λ o. o.1 t) r.here) (λ t. ⊎_elim (λ o. z o) (λ o. o.0 t) r.here)
 
-      at_end : get_or cs second (pos 0) ≡ pos 0 → (T (true_in a literal) → ⊥) → SaysAt cs at a (Ok (Some literal))
+      pub at_end : get_or cs second (pos 0) ≡ pos 0 → (T (true_in a literal) → ⊥) → SaysAt cs at a (Ok (Some literal))
       at_end z f e n = (literal_fits, record { among = first_in e n; others = others; not_true = f; not_false = not_false })
         where
           go : (k : ℕ) → at ≤ k → k < e → get_or cs k (pos 0) ≢ literal → (first ≤ k) ⊎ (k < first) → (second ≤ k) ⊎ (k < second) → T (true_in a (neg_ℤ (get_or cs k (pos 0))))

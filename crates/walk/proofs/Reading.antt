@@ -11,7 +11,7 @@ use Rattle.plan.proofs.ByPlace.{edge_listed}
 use Rattle.walk.specs.Walking.{Inside, Placed}
 
 module _ (l : List struct-of-edge.Edge) (k : ℕ) (e : struct-of-edge.Edge) (here : edge_of e ≡ edge (edges_of l) k) (h : k < length l) where
-  its_listed : Memᴰ (edge_of e) (edges_of l)
+  pub its_listed : Memᴰ (edge_of e) (edges_of l)
   its_listed = rw here (edge_listed l k h)
 
   pub ends_in : Inside (edges_of l) → (e.from < 64) × (e.to < 64)

@@ -6,15 +6,17 @@ use crate::has;
 
 // How far each node is, and the set of the nodes that are reached. What stands for a node that is not reached says nothing, so that one table serves for
 // walk after walk.
-#[derive(Clone, Copy)]
+#[derive(Clone, Copy, Debug, PartialEq, Eq)]
 pub struct Distances {
     pub far: [u64; 64],
     pub reached: u64,
 }
 
 impl Distances {
-    // A table to walk into.
-    pub fn blank() -> Distances {
+    // A table to walk into: no node is reached.
+    pub fn blank() -> Distances
+        ensures { result.reached ≡ 0 }
+    {
         Distances {
             far: [0; 64],
             reached: 0,

@@ -13,7 +13,7 @@ use plan::{Atom, Edge, Measure, Plan, Side};
 
 // The edges of a graph: for each node the number, from 0, of the first that starts there, and for each edge that of the next one behind it with the same
 // start. The count of the edges stands for none: an `Option<u16>` has twice the bytes, and the memory is fixed.
-#[derive(Clone, Copy)]
+#[derive(Clone, Copy, Debug, PartialEq, Eq)]
 pub struct Chains {
     pub first: [u16; 64],
     pub next: [u16; Plan::MAX_EDGES],

@@ -69,7 +69,7 @@ loop-number-preserved c =
     let f = subst (λ m. LiteralFits m x) l.invariant.1.long (literal_fits l.values _ a.holds (atom_ready a.tables.now.lent l.invariant.1 k i)) in
     let g = gets_it a.holds _ _ c.given.result (search rules) c.given.ensures (same_variable a.tables.now.atoms.now k) l.values c.give.new.values (Ok c.in_ok-told.told) c.in_ok-told.ensures in (
       (λ j m. l.invariant.0 j (t.kept j m)),
-      gets_shape a.tables.now.plan.variables x l.values c.give.new.values c.in_ok-told.told l.invariant.1 f g,
+      gets_shape a.tables.now.plan.variables x l.values c.give.new.values (Ok c.in_ok-told.told) l.invariant.1 f g,
       rw c.or-step.ensures (given_one _ a.holds k l.number-iterator.0 _ a.values.now l.values c.give.new.values l.step (Ok c.in_ok-told.told) i n t g l.invariant.2),
     )
 
